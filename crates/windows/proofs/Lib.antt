@@ -1,0 +1,5 @@
+pub mod Parts
+pub mod Listed
+pub mod Endless
+pub mod Laying
+pub mod Steps

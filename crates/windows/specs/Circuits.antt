@@ -1,0 +1,62 @@
+-- Circuits as a call hands them out (document 01, "Circuits"): "An arc is four numbers: kind, position, to, from."
+use mathlib.Core.Logic.{_≢_}
+use mathlib.Core.List.{List, [], _∷_, _++_, map}
+use Prim.Native.Nat.{ℕ, _≤_}
+use lib.IntN.{ℤ}
+use Rattle.theory.specs.Arcs.{Arc}
+use Rattle.theory.specs.Circuits.{Circuit, departures, Above}
+use Rattle.tables.specs.Sheets.{Sheet, noWindow}
+use Rattle.windows.specs.Windows.{Kind, number, Event, entry, mode}
+use Rattle.windows.specs.Arcs.{arc, arcs}
+
+-- An arc of a circuit, as it is named: by its window and its position.
+pub record Step : Type 0 where
+  pub kind : Kind
+  pub position : ℕ
+  pub to : ℕ
+  pub from : ℕ
+
+-- the four numbers of each arc, one after the other
+abbrev pub numbers : List Step → List ℕ
+numbers [] = []
+numbers (c ∷ rest) = number (c .kind) ∷ c .position ∷ c .to ∷ c .from ∷ numbers rest
+
+-- The node is none after the first: "The first arc leaves the smallest node."
+abbrev pub Smallest : ℕ → List ℕ → Type 0
+Smallest v [] = Unit {0}
+Smallest v (u ∷ rest) = (v ≤ u) × Smallest v rest
+
+abbrev pub FirstSmallest : List ℕ → Type 0
+FirstSmallest [] = Unit {0}
+FirstSmallest (v ∷ rest) = Smallest v rest
+
+module _ (s : Sheet) where
+  -- the limit of the step's window, and its arc
+  abbrev pub limit : Step → ℤ
+  limit c = entry s (mode s (c .position)) (c .kind) (c .to) (c .from)
+
+  abbrev pub stepArc : Step → Arc
+  stepArc c = arc s (c .position) (c .kind) (c .to) (c .from) (limit c)
+
+  -- The sheet has the step's window at that position.
+  pub record Valid (c : Step) : Type 0 where
+    pub from-first : 1 ≤ c .position
+    pub to-last : c .position ≤ s .positions
+    pub to-event : Event s (c .to)
+    pub from-event : Event s (c .from)
+    pub present : limit c ≢ noWindow
+
+  abbrev pub AllValid : List Step → Type 0
+  AllValid [] = Unit {0}
+  AllValid (c ∷ rest) = Valid c × AllValid rest
+
+  -- A circuit of the sheet's arcs, the first leaving the smallest node.
+  pub record CircuitOf (cs : List Step) : Type 0 where
+    pub valid : AllValid cs
+    pub circuit : Circuit (arcs s) (map stepArc cs)
+    pub first : FirstSmallest (departures (map stepArc cs))
+
+  -- "a refutation is one with total weight above zero"
+  pub record Refutes (p q : ℕ) (cs : List Step) : Type 0 where
+    pub circuit : CircuitOf cs
+    pub above : Above p q (map stepArc cs)

@@ -1,0 +1,4 @@
+pub mod Windows
+pub mod Inequalities
+pub mod Arcs
+pub mod Circuits
