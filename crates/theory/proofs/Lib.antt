@@ -6,3 +6,4 @@ pub mod Slopes
 pub mod Sums
 pub mod Fractions
 pub mod Found
+pub mod Turning

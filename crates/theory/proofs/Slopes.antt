@@ -1,5 +1,5 @@
 -- A circuit's total as the cycle time changes: the cycle times that work are a range, and each circuit bounds it on one side.
-use mathlib.Core.Path.{_≡_}
+use mathlib.Core.Path.{_≡_, ap}
 use mathlib.Core.Logic.{_⊎_, inl, inr, _↔_}
 use mathlib.Core.List.{List, [], _∷_}
 use Prim.Native.Nat.{ℕ, zero, _+_, _-_, _*_, _≤_, _<_}
@@ -38,6 +38,22 @@ fits-works arcs N p q within fits =
       | inl x ↦ x
       | inr b ↦ absurd (omega (arith, b .above, fits (b .by) (b .circuit)))
     ]
+
+-- THEOREM: a refutation refutes at every finer clock too
+pub refuted-finer : (arcs : List Arc) (p q k : ℕ) → 0 < k → Refuted arcs p q → Refuted arcs (k * p) (k * q)
+refuted-finer arcs p q k pos r =
+    record {
+      by = r .by;
+      circuit = r .circuit;
+      above = omega (
+        arith,
+        mul-lt-mul-of-pos-left {k = k} (r .above) pos,
+        ap (λ (t : ℕ). k * t) (total-rise p q (r .by)),
+        ap (λ (t : ℕ). k * t) (total-fall p q (r .by)),
+        total-rise (k * p) (k * q) (r .by),
+        total-fall (k * p) (k * q) (r .by),
+      );
+    }
 
 -- ---- where a circuit's c is not above 0 it fits at every later cycle time, and where it is not below 0 at every earlier one
 

@@ -38,6 +38,15 @@ pub record Circuit (arcs : List Arc) (c : List Arc) : Type 0 where
   pub nonempty : 0 < length c
   pub distinct : Distinct (departures c)
 
+-- "The first arc leaves the smallest node": the first of the nodes is at most each other.
+abbrev pub Smallest : ℕ → List ℕ → Type 0
+Smallest v [] = Unit {0}
+Smallest v (u ∷ rest) = (v ≤ u) × Smallest v rest
+
+abbrev pub FirstSmallest : List ℕ → Type 0
+FirstSmallest [] = Unit {0}
+FirstSmallest (v ∷ rest) = Smallest v rest
+
 -- The total weight at p/q is above zero; is at most zero; is zero.
 abbrev pub Above : ℕ → ℕ → List Arc → Type 0
 Above p q c = total (fall p q) c < total (rise p q) c

@@ -1,19 +1,24 @@
 -- Circuits as document 01 lists them are circuits of the sheet's arcs, and every circuit of the arcs can be so listed.
-use mathlib.Core.Path.{_≡_, refl, sym, ap, _∙_}
-use mathlib.Core.Logic.{_≢_}
-use mathlib.Core.List.{List, [], _∷_, map}
+use mathlib.Core.Path.{_≡_, refl, sym, ap, _∙_, subst}
+use mathlib.Core.Logic.{_≢_, _⊎_, inl, inr}
+use mathlib.Core.List.{List, [], _∷_, _++_, map}
 use Prim.Native.Nat.{ℕ, _≤_, _<_}
+use native.Mathlib.Omega.{arith}
+use lib.ListN.{length}
 use lib.IntN.{ℤ}
-use Rattle.theory.specs.Arcs.{Arc, _∈_, Plan}
-use Rattle.theory.specs.Circuits.{Walk, Circuit, Refuted}
+use Rattle.theory.specs.Arcs.{Arc, _∈_, rise, fall, Plan}
+use Rattle.theory.specs.Circuits.{total, Walk, departures, Circuit, FirstSmallest, Refuted}
 use Rattle.theory.proofs.Walks.{refuted-never}
+use Rattle.theory.proofs.Loops.{works-or-refuted}
+use Rattle.theory.proofs.Turning.{circuit-turn, total-turn, map-append, Split, smallest-split, split-first}
 use Rattle.tables.specs.Sheets.{Sheet}
 use Rattle.windows.specs.Windows.{Window, Has}
 use Rattle.windows.specs.Inequalities.{Times, Solves}
-use Rattle.windows.specs.Arcs.{arc, arcs}
+use Rattle.windows.specs.Arcs.{nodes, arc, arcs}
 use Rattle.windows.specs.Circuits.{Step, limit, stepArc, Valid, AllValid, CircuitOf, Refutes}
 use Rattle.windows.proofs.Listed.{arcs-in, arcs-of}
 use Rattle.windows.proofs.Endless.{meaning}
+use Rattle.windows.proofs.Laying.{arcs-within}
 
 module _ (s : Sheet) where
   pub valid-in : (c : Step) → Valid s c → stepArc s c ∈ arcs s
@@ -46,3 +51,65 @@ module _ (s : Sheet) where
   never-both some p q x solves cs r =
       let y = meaning s some p q .0 (x, solves) in
       refuted-never (arcs s) p q (refutes-refuted p q cs r) (y .0) (y .1)
+
+  -- ---- every circuit of the arcs, listed from its smallest node
+
+  valid-front : (cs ds : List Step) → AllValid s (cs ++ ds) → AllValid s cs
+  valid-front [] ds v = tt
+  valid-front (c ∷ cs) ds v = (v .0, valid-front cs ds (v .1))
+
+  valid-back : (cs ds : List Step) → AllValid s (cs ++ ds) → AllValid s ds
+  valid-back [] ds v = v
+  valid-back (c ∷ cs) ds v = valid-back cs ds (v .1)
+
+  valid-join : (cs ds : List Step) → AllValid s cs → AllValid s ds → AllValid s (cs ++ ds)
+  valid-join [] ds v w = w
+  valid-join (c ∷ cs) ds v w = (v .0, valid-join cs ds (v .1) w)
+
+  leaves : Step → ℕ
+  leaves c = stepArc s c .departure
+
+  departures-map : (cs : List Step) → departures (map (stepArc s) cs) ≡ map leaves cs
+  unfolding leaves
+  departures-map [] = refl
+  departures-map (c ∷ cs) = ap (λ (l : List ℕ). leaves c ∷ l) (departures-map cs)
+
+  -- a circuit as steps, with the sums of the arcs
+  pub record Listing (w : List Arc) : Type 0 where
+    pub steps : List Step
+    pub circuit : CircuitOf s steps
+    pub same : (f : Arc → ℕ) → total f (map (stepArc s) steps) ≡ total f w
+
+  turned : (cs front back : List Step) → cs ≡ front ++ back → AllValid s cs → Circuit (arcs s) (map (stepArc s) cs) → FirstSmallest (map leaves (back ++ front)) → Listing (map (stepArc s) cs)
+  turned cs front back joined valid circuit first =
+      let split : map (stepArc s) cs ≡ map (stepArc s) front ++ map (stepArc s) back = ap (map (stepArc s)) joined ∙ map-append (stepArc s) front back in
+      let v : AllValid s (front ++ back) = subst (AllValid s) joined valid in
+      record {
+        steps = back ++ front;
+        circuit = record {
+          valid = valid-join back front (valid-back front back v) (valid-front front back v);
+          circuit = rw (map-append (stepArc s) back front) (circuit-turn (arcs s) (map (stepArc s) front) (map (stepArc s) back) (subst (Circuit (arcs s)) split circuit));
+          first = rw (departures-map (back ++ front)) first;
+        };
+        same = λ f. ap (total f) (map-append (stepArc s) back front) ∙ total-turn f (map (stepArc s) front) (map (stepArc s) back) ∙ sym (ap (total f) split);
+      }
+
+  -- THEOREM: every circuit of the arcs can be listed as document 01 has it
+  pub listing : (w : List Arc) → Circuit (arcs s) w → Listing w
+  listing w c = let k = walk-steps (c .node) w (c .node) (c .closed) in go (k .0) w (k .1) (k .2) c
+    where
+      go : (cs : List Step) (w : List Arc) → AllValid s cs → map (stepArc s) cs ≡ w → Circuit (arcs s) w → Listing w
+      go [] w v e c = absurd (omega (arith, c .nonempty, ap length e))
+      go (d ∷ ds) w v e c =
+          let p = smallest-split leaves d ds in
+          subst Listing e (turned (d ∷ ds) (p .front) (p .first ∷ p .rest) (p .joined) v (subst (Circuit (arcs s)) (sym e) c) (split-first leaves (d ∷ ds) p))
+
+  -- THEOREM: at every cycle time there is a solution or a refutation
+  pub decided : 0 < s .positions → (p q : ℕ) → ((x : Times) × Solves s p q x) ⊎ ((cs : List Step) × Refutes s p q cs)
+  decided some p q =
+      elim (works-or-refuted (arcs s) p q (nodes s) (arcs-within s some)) [
+        | inl w ↦ inl (meaning s some p q .1 w)
+        | inr r ↦
+            let l = listing (r .by) (r .circuit) in
+            inr (l .steps, record { circuit = l .circuit; above = omega (arith, r .above, l .same (rise p q), l .same (fall p q)) })
+      ]

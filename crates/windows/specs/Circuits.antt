@@ -4,7 +4,7 @@ use mathlib.Core.List.{List, [], _∷_, _++_, map}
 use Prim.Native.Nat.{ℕ, _≤_}
 use lib.IntN.{ℤ}
 use Rattle.theory.specs.Arcs.{Arc}
-use Rattle.theory.specs.Circuits.{Circuit, departures, Above}
+use Rattle.theory.specs.Circuits.{Circuit, departures, FirstSmallest, Above}
 use Rattle.tables.specs.Sheets.{Sheet, noWindow}
 use Rattle.windows.specs.Windows.{Kind, number, Event, entry, mode}
 use Rattle.windows.specs.Arcs.{arc, arcs}
@@ -20,15 +20,6 @@ pub record Step : Type 0 where
 abbrev pub numbers : List Step → List ℕ
 numbers [] = []
 numbers (c ∷ rest) = number (c .kind) ∷ c .position ∷ c .to ∷ c .from ∷ numbers rest
-
--- The node is none after the first: "The first arc leaves the smallest node."
-abbrev pub Smallest : ℕ → List ℕ → Type 0
-Smallest v [] = Unit {0}
-Smallest v (u ∷ rest) = (v ≤ u) × Smallest v rest
-
-abbrev pub FirstSmallest : List ℕ → Type 0
-FirstSmallest [] = Unit {0}
-FirstSmallest (v ∷ rest) = Smallest v rest
 
 module _ (s : Sheet) where
   -- the limit of the step's window, and its arc
