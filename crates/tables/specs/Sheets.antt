@@ -76,3 +76,8 @@ unless false k rest = k
 -- 4, 5, 6 in that order; 0 for a sheet that is none of these
 unfoldable pub refusal : Sheet → ℕ
 refusal s = unless (sized s) 4 (unless (scheduled s) 5 (unless (admitted s) 6 0))
+
+-- the refusal, or what comes after it where there is none
+abbrev pub otherwise : ℕ → ℕ → ℕ
+otherwise zero next = next
+otherwise (suc k) next = suc k
