@@ -17,6 +17,9 @@ pub record Sheet : Type 0 where
   pub tables : List ℤ
   pub schedule : List ℕ
 
+abbrev pub sheet : ℕ → ℕ → ℕ → List ℤ → List ℕ → Sheet
+sheet n m positions tables schedule = record { n = n; m = m; positions = positions; tables = tables; schedule = schedule }
+
 -- "-2147483648 means "no window" and is the only other value admitted."
 abbrev pub noWindow : ℤ
 noWindow = negsuc 2147483647

@@ -5,13 +5,13 @@ use mathlib.Core.Logic.{_⊎_, inl, inr}
 use mathlib.Core.List.{List, []}
 use Prim.Native.Nat.{ℕ, zero, suc, _+_, _-_, _*_, _≤_, _<_}
 use native.Mathlib.Omega.{arith}
-use native.Mathlib.Nat.{mul-le-mul-left, mul-lt-mul-of-pos-left, lt-of-mul-lt-mul-left, eq-one-of-dvd-one}
+use native.Mathlib.Nat.{mul-le-mul-left, mul-lt-mul-of-pos-left, lt-of-mul-lt-mul-left, eq-one-of-dvd-one, dvd-zero, dvd-refl}
 use native.Mathlib.Decide.{decLe, decLt}
 use Rattle.theory.specs.Arcs.{Arc, Works}
 use Rattle.theory.specs.Circuits.{Circuit, Above, Zero, Refuted, ups, downs, forths, backs, Falling, Climbing, Level, Gaining}
 use Rattle.theory.specs.Ends.{AtMost, Under, Lowest, High, open-end, up-to, Range, Never, LowShown, at-zero, above-zero, HighShown, no-limit, limit, Clash, NoneShown, single, double}
 use Rattle.theory.proofs.Loops.{works-or-refuted}
-use Rattle.theory.proofs.Slopes.{LowLimit, HighLimit, total-rise, total-fall, split, between, upwards, climbing-loses, over-climbs, falling-gains, climb, descend, single-clash, double-clash}
+use Rattle.theory.proofs.Slopes.{LowLimit, HighLimit, total-rise, total-fall, split, between, upwards, climbing-loses, over-climbs, falling-gains, climb, descend, single-clash, double-clash, low-bound, high-bound, zero-low, zero-high}
 use Rattle.theory.proofs.Sums.{Laid, backs-few, forths-few, ups-few, downs-few, big-falls}
 use Rattle.theory.proofs.Fractions.{lowest-least, reduce, floors, floors-rise, left-to-climb, climb-falls}
 
@@ -81,6 +81,23 @@ module _ (N B K : ℕ) (arcs : List Arc) (laid : Laid N B K arcs) where
         works = λ p q posq h k. upwards arcs N (laid .within) a b p q pos worksb (big-falls N B K arcs laid P big top) h;
         only = λ p q posq works. (least p q works, tt);
       }
+
+  -- ---- what circuits that show the ends give
+
+  pub shown-least : (a b : ℕ) (c : List Arc) → LowShown arcs b a c → Least arcs a b
+  shown-least a b c at-zero p q works = omega arith
+  shown-least a b c (above-zero pos ring falls zero-there) p q works = low-bound arcs p q works c ring a b falls (omega arith)
+
+  pub shown-most : (a b : ℕ) (c : List Arc) → HighShown arcs (up-to a b) c → Most arcs a b
+  shown-most a b c (limit ring climbs zero-there) p q works = high-bound arcs p q works c ring a b climbs (omega arith)
+
+  -- THEOREM: ends that are shown have a bottom up to K
+  pub shown-low-small : (a b : ℕ) (c : List Arc) → 1 ≤ K → 0 < b → Lowest a b → LowShown arcs b a c → b ≤ K
+  shown-low-small a b c some pos low at-zero = let one : b ≡ 1 = low b (dvd-zero b) (dvd-refl b) in omega arith
+  shown-low-small a b c some pos low (above-zero above ring falls zero-there) = low-small c ring a b low falls (zero-low c a b pos falls zero-there) .1
+
+  pub shown-high-small : (a b : ℕ) (c : List Arc) → 0 < b → Lowest a b → HighShown arcs (up-to a b) c → b ≤ K
+  shown-high-small a b c pos low (limit ring climbs zero-there) = high-small c ring a b low climbs (zero-high c a b pos climbs zero-there) .1
 
   -- ---- the climb, from 0/1
 

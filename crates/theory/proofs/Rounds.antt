@@ -100,6 +100,10 @@ module _ (arcs : List Arc) (p q : ℕ) where
     earliest r same x plan first v below =
         omega (arith, table-least x plan r v, first (table arcs p q r) (still-plan r same) v below)
 
+    -- times that agree at the N nodes are both plans or neither
+    pub plan-agree : (x y : ℕ → ℕ) → ((v : ℕ) → v < N → x v ≡ y v) → Plan arcs p q x → Plan arcs p q y
+    plan-agree x y same plan a m = omega (arith, plan a m, same (a .departure) (within a m .0), same (a .arrival) (within a m .1))
+
     -- no node outside has a time
     pub table-outside : (r v : ℕ) → N ≤ v → table arcs p q r v ≡ 0
     unfolding table

@@ -206,6 +206,19 @@ module _ (c : List Arc) (a b : ℕ) where
   pub high-zero : backs c ≤ forths c → ups c ≤ downs c → HighLimit a b c → Zero a b c
   high-zero climbs less e = omega (arith, total-rise a b c, total-fall a b c, split a (backs c) (forths c) climbs, split b (ups c) (downs c) less)
 
+  -- and back: a total of zero names the limit
+  pub zero-low : 0 < b → Falling c → Zero a b c → LowLimit a b c
+  zero-low pos falls e =
+      let fa = split a (forths c) (backs c) (omega arith) in
+      let more : downs c ≤ ups c = le-of-mul-le-mul-left {k = b} (omega (arith, total-rise a b c, total-fall a b c)) pos in
+      omega (arith, total-rise a b c, total-fall a b c, split b (downs c) (ups c) more)
+
+  pub zero-high : 0 < b → Climbing c → Zero a b c → HighLimit a b c
+  zero-high pos climbs e =
+      let fa = split a (backs c) (forths c) (omega arith) in
+      let less : ups c ≤ downs c = le-of-mul-le-mul-left {k = b} (omega (arith, total-rise a b c, total-fall a b c)) pos in
+      omega (arith, total-rise a b c, total-fall a b c, split b (ups c) (downs c) less)
+
 module _ (arcs : List Arc) (p q : ℕ) (c : List Arc) (ring : Circuit arcs c) (above : Above p q c) where
   -- one step of the climb: the circuit is above zero at p/q and c is below 0
   pub falling-gains : Falling c → Gaining c

@@ -71,7 +71,7 @@ moved-all s q x g z h D E m m′ t a has says = moved-says s q x g z h D E m m�
 
 -- ---- small facts
 
-not-below : (z : ℤ) → pos 0 ≤ℤ z → down z ≡ 0
+pub not-below : (z : ℤ) → pos 0 ≤ℤ z → down z ≡ 0
 not-below (pos a) h = refl
 not-below (negsuc a) h = absurd (omega (arith, le-parts (pos 0) (negsuc a) .0 h))
 
@@ -239,7 +239,7 @@ module _ (s : Sheet) (some : 0 < s .positions) where
       position : (g * s .n + e) / s .n ≡ g
       position = omega (arith, mul-add-div-right {m = s .n} (omega arith) g e, div-eq-of-lt event)
 
-  node-below : (g e : ℕ) → g < s .positions → e < s .n → node s (suc g) (suc e) < nodes s
+  pub node-below : (g e : ℕ) → g < s .positions → e < s .n → node s (suc g) (suc e) < nodes s
   node-below g e small event = rw (mod-eq-of-lt small) (omega (arith, mul-le-mul-right {m = suc g} {n = s .positions} (s .n) small))
 
   -- times of nodes that agree with x in the first period, C later, lift x

@@ -3,3 +3,4 @@ pub mod Listed
 pub mod Endless
 pub mod Laying
 pub mod Steps
+pub mod Limits

@@ -1,0 +1,185 @@
+-- What a sheet that is not refused gives its caller, and the steps of the loops that judge it.
+use mathlib.Core.Path.{_≡_, refl, sym, ap, _∙_}
+use mathlib.Core.Bool.{Bool, true, false, _&&_}
+use mathlib.Core.List.{List, [], _∷_}
+use Prim.Native.Nat.{ℕ, zero, suc, _+_, _-_, _*_, _≤_, _<_}
+use native.Mathlib.Omega.{arith}
+use native.Mathlib.Numerals.{add-one}
+use native.Mathlib.Nat.{mul-le-mul}
+use borrow.Author.Tests.{ltb-true, leb-true, eqb-true, ltb-false, leb-false, eqb-false, lt-ltb, le-ltb, lt-leb, le-leb, ne-eqb, eq-eqb}
+use lib.Dec.{leb, ltb, eqb}
+use lib.ListN.{getD, length, take, drop}
+use lib.Seq.{drop-cons}
+use lib.IntN.{ℤ, pos, negsuc}
+use lib.Signed.{mag, ltZ, leZ}
+use mir.Syntax.{w32}
+use mir.Val.{ofZ}
+use Rattle.tables.specs.Sheets.{Sheet, noWindow, places, inLimit, absent, or, admits, all, within, sized, scheduled, admitted, unless, refusal}
+
+-- ---- conjunctions
+pub both : (a b : Bool) → (a && b) ≡ true → (a ≡ true) × (b ≡ true)
+both true b e = (refl, e)
+both false b e = let z : _≡_ {A = ℕ} 0 1 = cc in absurd (omega arith)
+
+clash : true ≡ false → ⊥
+clash e = let z : _≡_ {A = ℕ} 0 1 = cc in omega arith
+
+-- ---- lists
+-- a test of all the first, one step further
+pub all-step : {A : Type 0} (f : A → Bool) (l : List A) (n k : ℕ) (d : A) → k < n → k < length l
+    → all f (take (n - k) (drop k l)) ≡ (f (getD l k d) && all f (take (n - (k + 1)) (drop (k + 1) l)))
+unfolding all
+all-step f l n k d h g = rw (one n k h, drop-cons l k d g, add-one k)
+  where
+    one : (n k : ℕ) → k < n → n - k ≡ suc (n - (k + 1))
+    one n k h = omega arith
+
+-- the loop over the first n: k are passed, and the test of the rest is the test of the whole
+module _ {A : Type 0} (f : A → Bool) (l : List A) (n k : ℕ) (d : A) (whole : Bool) (e : whole ≡ all f (take (n - k) (drop k l))) where
+  pub all-stop : k < n → k < length l → f (getD l k d) ≡ false → false ≡ whole
+  all-stop h g q = sym (e ∙ all-step f l n k d h g ∙ rw q)
+
+  pub all-next : k < n → k < length l → f (getD l k d) ≡ true → whole ≡ all f (take (n - (k + 1)) (drop (k + 1) l))
+  all-next h g q = e ∙ all-step f l n k d h g ∙ rw q
+
+  pub all-end : n ≤ k → true ≡ whole
+  unfolding all
+  all-end h = sym (e ∙ ap (λ (j : ℕ). all f (take j (drop k l))) (none n k h))
+    where
+      none : (n k : ℕ) → n ≤ k → n - k ≡ 0
+      none n k h = omega arith
+
+-- what holds of all the first holds of each
+pub all-at : {A : Type 0} (f : A → Bool) (l : List A) (n k : ℕ) (d : A) → all f (take n l) ≡ true → k < n → k < length l → f (getD l k d) ≡ true
+unfolding all
+all-at f [] n k d e h g = absurd (omega arith)
+all-at f (a ∷ l) zero k d e h g = absurd (omega arith)
+all-at f (a ∷ l) (suc n) zero d e h g = both (f a) _ e .0
+all-at f (a ∷ l) (suc n) (suc k) d e h g = all-at f l n k d (both (f a) _ e .1) (omega arith) (omega arith)
+
+-- ---- values
+-- the machine's test for "no window" is that of the integer
+pub is-absent : (z : ℤ) → mag z < 2147483648 → eqb (ofZ w32 z) 2147483648 ≡ absent z
+is-absent (pos n) h = ne-eqb n 2147483648 (omega arith)
+is-absent (negsuc n) h = go (eqb n 2147483647) refl
+  where
+    go : (b : Bool) → eqb n 2147483647 ≡ b → eqb (4294967296 - suc n) 2147483648 ≡ b
+    go true e = eq-eqb (4294967296 - suc n) 2147483648 (omega (arith, eqb-true n 2147483647 e))
+    go false e = ne-eqb (4294967296 - suc n) 2147483648 (let q = eqb-false n 2147483647 e in omega arith)
+
+-- "no window" is one value
+pub absent-is : (z : ℤ) → absent z ≡ true → z ≡ noWindow
+absent-is (pos n) e = absurd (clash (sym e))
+absent-is (negsuc n) e = ap negsuc (eqb-true n 2147483647 e)
+
+or-right : (a b : Bool) → b ≡ true → or a b ≡ true
+or-right true b e = refl
+or-right false b e = e
+
+or-false : (a b : Bool) → b ≡ false → or a b ≡ a
+or-false true b e = refl
+or-false false b e = e
+
+module _ (z : ℤ) where
+  pub admits-absent : absent z ≡ true → true ≡ admits z
+  admits-absent e = sym (or-right (inLimit z) (absent z) e)
+
+  admits-other : absent z ≡ false → admits z ≡ inLimit z
+  admits-other e = or-false (inLimit z) (absent z) e
+
+low : (z : ℤ) → ltZ z (negsuc 999999) ≡ true → inLimit z ≡ false
+low (pos n) t = absurd (clash (sym t))
+low (negsuc n) t = le-ltb n 1000000 (omega (arith, ltb-true 999999 n t))
+
+high : (z : ℤ) → ltZ z (negsuc 999999) ≡ false → leZ z (pos 1000000) ≡ inLimit z
+high (pos n) t = refl
+high (negsuc n) t = sym (lt-ltb n 1000000 (omega (arith, ltb-false 999999 n t)))
+
+pub admits-low : (z : ℤ) → absent z ≡ false → ltZ z (negsuc 999999) ≡ true → false ≡ admits z
+admits-low z e t = sym (admits-other z e ∙ low z t)
+
+pub admits-high : (z : ℤ) → absent z ≡ false → ltZ z (negsuc 999999) ≡ false → leZ z (pos 1000000) ≡ admits z
+admits-high z e t = high z t ∙ sym (admits-other z e)
+
+-- ---- sizes
+pub record Sizes (s : Sheet) : Type 0 where
+  pub some-events : 1 ≤ s .n
+  pub few-events : s .n ≤ 12
+  pub some-modes : 1 ≤ s .m
+  pub few-modes : s .m ≤ 8
+  pub some-positions : 1 ≤ s .positions
+  pub few-positions : s .positions ≤ 16
+  pub long-tables : places (s .n) (s .m) ≤ length (s .tables)
+  pub long-schedule : s .positions ≤ length (s .schedule)
+
+pub within-is : (most k : ℕ) → within most k ≡ true → (1 ≤ k) × (k ≤ most)
+within-is most k e = let b = both (leb 1 k) (leb k most) e in (leb-true 1 k (b .0), leb-true k most (b .1))
+
+pub sizes : (s : Sheet) → sized s ≡ true → Sizes s
+unfolding sized
+sizes s e =
+    let a = both _ (leb (s .positions) (length (s .schedule))) e in
+    let b = both _ (leb (places (s .n) (s .m)) (length (s .tables))) (a .0) in
+    let c = both _ (within 16 (s .positions)) (b .0) in
+    let d = both (within 12 (s .n)) (within 8 (s .m)) (c .0) in
+    let n = within-is 12 (s .n) (d .0) in
+    let m = within-is 8 (s .m) (d .1) in
+    let v = within-is 16 (s .positions) (c .1) in
+    record {
+      some-events = n .0;
+      few-events = n .1;
+      some-modes = m .0;
+      few-modes = m .1;
+      some-positions = v .0;
+      few-positions = v .1;
+      long-tables = leb-true _ _ (b .1);
+      long-schedule = leb-true _ _ (a .1);
+    }
+
+-- no more than 144 pairs of events, and 4,608 places
+pub square : (n : ℕ) → n ≤ 12 → n * n ≤ 144
+square n h = mul-le-mul h h
+
+pub few-places : (n m : ℕ) → n ≤ 12 → m ≤ 8 → places n m ≤ 4608
+few-places n m h g = mul-le-mul {n₁ = 4 * m} {n₂ = 32} (omega arith) (square n h)
+
+-- ---- the whole verdict
+pub record Admitted (s : Sheet) : Type 0 where
+  pub size : Sizes s
+  pub modes : (h : ℕ) → h < s .positions → getD (s .schedule) h 0 < s .m
+  pub values : (k : ℕ) → k < places (s .n) (s .m) → admits (getD (s .tables) k (pos 0)) ≡ true
+
+passes : (a b c : Bool) → unless a 4 (unless b 5 (unless c 6 0)) ≡ 0 → (a ≡ true) × (b ≡ true) × (c ≡ true)
+passes true true true e = (refl, refl, refl)
+passes true true false e = absurd (omega arith)
+passes true false c e = absurd (omega arith)
+passes false b c e = absurd (omega arith)
+
+-- a sheet that is not refused
+pub accepted : (s : Sheet) → refusal s ≡ 0 → Admitted s
+unfolding refusal scheduled admitted
+accepted s e =
+    let p = passes (sized s) (scheduled s) (admitted s) e in
+    let z = sizes s (p .0) in
+    record {
+      size = z;
+      modes = λ h l. ltb-true _ _ (all-at (λ t. ltb t (s .m)) (s .schedule) (s .positions) h 0 (p .1) l (omega (arith, z .long-schedule)));
+      values = λ k l. all-at admits (s .tables) (places (s .n) (s .m)) k (pos 0) (p .2) l (omega (arith, z .long-tables));
+    }
+
+module _ (s : Sheet) where
+  pub refused-4 : sized s ≡ false → 4 ≡ refusal s
+  unfolding refusal
+  refused-4 a = rw a
+
+  pub refused-5 : sized s ≡ true → scheduled s ≡ false → 5 ≡ refusal s
+  unfolding refusal
+  refused-5 a b = rw (a, b)
+
+  pub refused-6 : sized s ≡ true → scheduled s ≡ true → admitted s ≡ false → 6 ≡ refusal s
+  unfolding refusal
+  refused-6 a b c = rw (a, b, c)
+
+  pub refused-not : sized s ≡ true → scheduled s ≡ true → admitted s ≡ true → 0 ≡ refusal s
+  unfolding refusal
+  refused-not a b c = rw (a, b, c)
