@@ -1,0 +1,37 @@
+use Rattle.numbers.specs.Groups.{followed}
+use borrow.Author.Tests.{eq-eqb, ne-eqb}
+use native.Mathlib.Omega.{arith}
+use borrow.Author.Needs.{needs}
+use Rattle.numbers.proofs.follow.Statement.{statement}
+use Rattle.numbers.proofs.follow.Tie as tie
+use Rattle.numbers.proofs.follow.Reads as reads
+use Rattle.numbers.proofs.follow.Lts as lts
+
+enum-known-rest : tie.Need-enum-known-rest
+enum-known-rest c = search needs
+
+mul-t9 : tie.Need-mul-t9
+mul-t9 c = omega (arith, rw (c .before .before .rest .given .1) at (c .before .before .before .before .pre .1))
+
+add-t10 : tie.Need-add-t10
+add-t10 c = omega (arith, rw (c .before .before .rest .given .1) at (c .before .before .before .before .pre .1))
+
+enum-known-rest-2 : tie.Need-enum-known-rest-2
+enum-known-rest-2 c = search needs
+
+returns : tie.Need-returns
+unfolding followed
+returns c = rw (c .before .before .rest .given .1, eq-eqb _ _ (c .if1 .taken))
+
+returns-2 : tie.Need-returns-2
+unfolding followed
+returns-2 c = rw (c .before .before .rest .given .1, ne-eqb _ _ (c .if1 .left))
+
+returns-3 : tie.Need-returns-3
+unfolding followed
+returns-3 c = rw (c .before .rest2 .given .1)
+
+pub follow-spec : {M : Type 1} → statement M
+follow-spec =
+    tie.close
+    (tie.spec enum-known-rest mul-t9 add-t10 enum-known-rest-2 returns returns-2 returns-3)
