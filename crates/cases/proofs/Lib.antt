@@ -1,3 +1,4 @@
 pub mod Tests
 pub mod Rows
 pub mod Cases
+pub mod Misreadings
