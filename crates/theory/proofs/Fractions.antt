@@ -4,7 +4,7 @@ use Prim.Native.Nat.{ℕ, zero, suc, _+_, _-_, _*_, _/_, _%_, _≤_, _<_, _∣_}
 use native.Mathlib.Omega.{arith}
 use native.Mathlib.Nat.{mul-le-mul-left, le-of-mul-le-mul-left, dvd-zero, dvd-refl, dvd-add, dvd-mul-right, dvd-mod-iff, dvd-of-mul-dvd-mul-left, mul-dvd-mul-left, eq-one-of-dvd-one, mul-div-cancel', mul-one, mod-lt, pos-of-dvd-of-pos, le-div-iff-mul-le, div-lt-iff-lt-mul, div-mul-le-self, mul-div-cancel, div-one}
 use native.Mathlib.Decide.{decLe, ℕ-discrete}
-use Rattle.theory.specs.Ends.{AtMost, Under, Lowest, High, open-end, up-to, Upper, HighLowest, Range}
+use Rattle.theory.specs.Ends.{AtMost, Under, Lowest, Greatest, High, open-end, up-to, Upper, HighLowest, Range}
 
 -- ---- a fraction of the same worth as one in lowest terms is a multiple of it: Euclid, by subtraction
 
@@ -76,11 +76,6 @@ lowest-least a b s t low e pos = go (m .times) (m .top) (m .bottom)
     go (suc k) et es = (omega arith, omega arith)
 
 -- ---- lowest terms by the greatest common divisor
-
-pub record Greatest (g a b : ℕ) : Type 0 where
-  pub left : g ∣ a
-  pub right : g ∣ b
-  pub all : (k : ℕ) → k ∣ a → k ∣ b → k ∣ g
 
 pub greatest-zero : (a : ℕ) → Greatest a a 0
 greatest-zero a = record { left = dvd-refl a; right = dvd-zero a; all = λ k x y. x }

@@ -17,6 +17,18 @@ Under p q p′ q′ = p * q′ < p′ * q
 abbrev pub Lowest : ℕ → ℕ → Type 0
 Lowest a b = (k : ℕ) → k ∣ a → k ∣ b → k ≡ 1
 
+-- the greatest common divisor: it divides both, and whatever divides both divides it
+pub record Greatest (g a b : ℕ) : Type 0 where
+  pub left : g ∣ a
+  pub right : g ∣ b
+  pub all : (k : ℕ) → k ∣ a → k ∣ b → k ∣ g
+
+-- a/b is the fraction t/s in lowest terms
+pub record Reduces (t s a b : ℕ) : Type 0 where
+  pub lowest : Lowest a b
+  pub worth : a * s ≡ t * b
+  pub positive : 0 < b
+
 -- The highest cycle time: "open", or the fraction c/d.
 pub data High : Type 0 where
   open-end : High
