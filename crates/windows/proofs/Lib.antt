@@ -4,3 +4,4 @@ pub mod Endless
 pub mod Laying
 pub mod Steps
 pub mod Limits
+pub mod Numbers
