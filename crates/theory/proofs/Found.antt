@@ -22,6 +22,25 @@ Least arcs a b = (p q : ℕ) → Works arcs p q → AtMost a b p q
 abbrev pub Most : List Arc → ℕ → ℕ → Type 0
 Most arcs c d = (p q : ℕ) → Works arcs p q → AtMost p q c d
 
+module _ (N B K : ℕ) (arcs : List Arc) where
+  -- where the climb stands: nothing that works is below a/b, and the circuit c shows it
+  pub record Low (a b : ℕ) (c : List Arc) : Type 0 where
+    pub positive : 0 < b
+    pub lowest : Lowest a b
+    pub small : a ≤ N * B
+    pub few : b ≤ K
+    pub least : Least arcs a b
+    pub shown : LowShown arcs b a c
+
+  -- where the descent stands: nothing that works is above a/b, and the circuit c shows it
+  pub record Top (a b : ℕ) (c : List Arc) : Type 0 where
+    pub positive : 0 < b
+    pub lowest : Lowest a b
+    pub small : a ≤ N * B
+    pub few : b ≤ K
+    pub most : Most arcs a b
+    pub shown : HighShown arcs (up-to a b) c
+
 -- THEOREM: circuits that show "none" leave no cycle time
 pub none-never : (arcs : List Arc) (c d : List Arc) → NoneShown arcs c d → Never (Works arcs)
 none-never arcs c d (single ring gains level) p q pos works = single-clash arcs p q works c ring pos gains level
@@ -101,17 +120,8 @@ module _ (N B K : ℕ) (arcs : List Arc) (laid : Laid N B K arcs) where
 
   -- ---- the climb, from 0/1
 
-  -- where it stands: nothing that works is below a/b, and the circuit c shows it
-  pub record Low (a b : ℕ) (c : List Arc) : Type 0 where
-    pub positive : 0 < b
-    pub lowest : Lowest a b
-    pub small : a ≤ N * B
-    pub few : b ≤ K
-    pub least : Least arcs a b
-    pub shown : LowShown arcs b a c
-
   -- the start: nothing is under 0/1
-  pub low-start : 1 ≤ K → Low 0 1 []
+  pub low-start : 1 ≤ K → Low N B K arcs 0 1 []
   low-start some = record { positive = omega arith; lowest = λ k x y. eq-one-of-dvd-one y; small = omega arith; few = some; least = λ p q works. omega arith; shown = at-zero }
 
   limit-positive : (a b : ℕ) (c : List Arc) → 0 < b → Falling c → Gaining c → LowLimit a b c → 0 < a
@@ -121,8 +131,8 @@ module _ (N B K : ℕ) (arcs : List Arc) (laid : Laid N B K arcs) where
   limit-positive (suc a) b c pos falls gains e = omega arith
 
   -- a circuit above zero at a/b with c below 0: go to its own limit
-  pub climb-on : (a b : ℕ) (c : List Arc) → Low a b c → (d : List Arc) → Circuit arcs d → Above a b d → Falling d → (a′ b′ : ℕ) → 0 < b′ → Lowest a′ b′ → LowLimit a′ b′ d
-      → Low a′ b′ d × Under a b a′ b′
+  pub climb-on : (a b : ℕ) (c : List Arc) → Low N B K arcs a b c → (d : List Arc) → Circuit arcs d → Above a b d → Falling d → (a′ b′ : ℕ) → 0 < b′ → Lowest a′ b′ → LowLimit a′ b′ d
+      → Low N B K arcs a′ b′ d × Under a b a′ b′
   climb-on a b c l d ring above falls a′ b′ pos low e =
       let s = climb arcs a b d ring above a′ b′ pos falls e in
       let t = low-small d ring a′ b′ low falls e in
@@ -130,7 +140,7 @@ module _ (N B K : ℕ) (arcs : List Arc) (laid : Laid N B K arcs) where
       (record { positive = pos; lowest = low; small = t .0; few = t .1; least = s .bound; shown = above-zero (limit-positive a′ b′ d pos falls gains e) ring falls (s .zero-there) }, s .rises)
 
   -- one with c at least 0: nothing works, and it shows so alone or with the circuit of the climb before it
-  pub climb-stops : (a b : ℕ) (c : List Arc) → Low a b c → (d : List Arc) → Circuit arcs d → Above a b d → Level d → NoneShown arcs d [] ⊎ NoneShown arcs c d
+  pub climb-stops : (a b : ℕ) (c : List Arc) → Low N B K arcs a b c → (d : List Arc) → Circuit arcs d → Above a b d → Level d → NoneShown arcs d [] ⊎ NoneShown arcs c d
   climb-stops a b c l d ring above level =
       elim (decLt (downs d) (ups d)) [
         | yes gains ↦ inl (single ring gains level)
@@ -145,29 +155,20 @@ module _ (N B K : ℕ) (arcs : List Arc) (laid : Laid N B K arcs) where
       two a c (above-zero pos ring′ falls zero-there) climbs none above = double ring′ falls ring climbs (low-high-clash a b c d falls zero-there climbs above)
 
   -- the climb's measure
-  pub climb-less : (a b : ℕ) (c : List Arc) (a′ b′ : ℕ) (c′ : List Arc) → Low a b c → Low a′ b′ c′ → Under a b a′ b′ → left-to-climb (N * B) K a′ b′ < left-to-climb (N * B) K a b
+  pub climb-less : (a b : ℕ) (c : List Arc) (a′ b′ : ℕ) (c′ : List Arc) → Low N B K arcs a b c → Low N B K arcs a′ b′ c′ → Under a b a′ b′ → left-to-climb (N * B) K a′ b′ < left-to-climb (N * B) K a b
   climb-less a b c a′ b′ c′ l l′ rises =
       climb-falls (N * B) K a b a′ b′ (l .positive) (l′ .positive) (l′ .few) (omega (arith, l′ .small, mul-le-mul-left (N * B) (l′ .positive))) rises
 
   -- ---- the descent, from a cycle time above every limit, where a/b works
 
   module _ (a b : ℕ) (pos : 0 < b) (works : Works arcs a b) where
-    -- where it stands: nothing that works is above c/d, and the circuit e shows it
-    pub record Top (c d : ℕ) (e : List Arc) : Type 0 where
-      pub positive : 0 < d
-      pub lowest : Lowest c d
-      pub small : c ≤ N * B
-      pub few : d ≤ K
-      pub most : Most arcs c d
-      pub shown : HighShown arcs (up-to c d) e
-
     pub descend-climbs : (p q : ℕ) → AtMost a b p q → (e : List Arc) → Circuit arcs e → Above p q e → Climbing e × (ups e ≤ downs e)
     descend-climbs p q h e ring above =
         let climbs = over-climbs arcs a b p q pos works e ring above h in
         (climbs, climbing-loses arcs a b pos works e ring climbs)
 
     -- a circuit above zero at p/q, at or over what works: go to its own limit
-    pub descend-on : (p q : ℕ) → AtMost a b p q → (e : List Arc) → Circuit arcs e → Above p q e → (c d : ℕ) → 0 < d → Lowest c d → HighLimit c d e → Top c d e × Under c d p q
+    pub descend-on : (p q : ℕ) → AtMost a b p q → (e : List Arc) → Circuit arcs e → Above p q e → (c d : ℕ) → 0 < d → Lowest c d → HighLimit c d e → Top N B K arcs c d e × Under c d p q
     descend-on p q h e ring above c d posd low worth =
         let k = descend-climbs p q h e ring above in
         let s = descend arcs p q e ring above c d posd (k .0) (k .1) worth in
@@ -175,7 +176,7 @@ module _ (N B K : ℕ) (arcs : List Arc) (laid : Laid N B K arcs) where
         (record { positive = posd; lowest = low; small = t .0; few = t .1; most = s .bound; shown = limit ring (k .0) (s .zero-there) }, s .falls)
 
     -- the descent's measure
-    pub descend-less : (c d : ℕ) (e : List Arc) (c′ d′ : ℕ) (e′ : List Arc) → Top c d e → Top c′ d′ e′ → Under c′ d′ c d → floors c′ d′ K < floors c d K
+    pub descend-less : (c d : ℕ) (e : List Arc) (c′ d′ : ℕ) (e′ : List Arc) → Top N B K arcs c d e → Top N B K arcs c′ d′ e′ → Under c′ d′ c d → floors c′ d′ K < floors c d K
     descend-less c d e c′ d′ e′ t t′ falls = floors-rise c′ d′ c d K (t′ .positive) (t .positive) (t .few) falls
 
   -- ---- both, so that there always are ends with their circuits, or circuits that show there are none
@@ -197,7 +198,7 @@ module _ (N B K : ℕ) (arcs : List Arc) (laid : Laid N B K arcs) where
     pub low-shown : LowShown arcs bottom top low-circuit
     pub high-shown : HighShown arcs high high-circuit
 
-  climb-step : (a b : ℕ) (c : List Arc) → Low a b c → Refuted arcs a b → None ⊎ ((a′ b′ : ℕ) × (c′ : List Arc) × Low a′ b′ c′ × Under a b a′ b′)
+  climb-step : (a b : ℕ) (c : List Arc) → Low N B K arcs a b c → Refuted arcs a b → None ⊎ ((a′ b′ : ℕ) × (c′ : List Arc) × Low N B K arcs a′ b′ c′ × Under a b a′ b′)
   climb-step a b c l k =
       elim (decLt (forths (k .by)) (backs (k .by))) [
         | yes falls ↦
@@ -210,7 +211,7 @@ module _ (N B K : ℕ) (arcs : List Arc) (laid : Laid N B K arcs) where
         ]
       ]
 
-  climb-all : (f a b : ℕ) (c : List Arc) → left-to-climb (N * B) K a b < f → Low a b c → None ⊎ ((a′ b′ : ℕ) × (c′ : List Arc) × Low a′ b′ c′ × Works arcs a′ b′)
+  climb-all : (f a b : ℕ) (c : List Arc) → left-to-climb (N * B) K a b < f → Low N B K arcs a b c → None ⊎ ((a′ b′ : ℕ) × (c′ : List Arc) × Low N B K arcs a′ b′ c′ × Works arcs a′ b′)
   climb-all zero a b c h l = absurd (omega arith)
   climb-all (suc f) a b c h l =
       elim (works-or-refuted arcs a b N (laid .within)) [
@@ -222,14 +223,14 @@ module _ (N B K : ℕ) (arcs : List Arc) (laid : Laid N B K arcs) where
       ]
 
   module _ (a b : ℕ) (pos : 0 < b) (works : Works arcs a b) where
-    descend-step : (p q : ℕ) → AtMost a b p q → (k : Refuted arcs p q) → (c d : ℕ) × Top a b pos works c d (k .by) × Under c d p q
+    descend-step : (p q : ℕ) → AtMost a b p q → (k : Refuted arcs p q) → (c d : ℕ) × Top N B K arcs c d (k .by) × Under c d p q
     descend-step p q h k =
         let climbs = descend-climbs a b pos works p q h (k .by) (k .circuit) (k .above) in
         let r = reduce (downs (k .by) - ups (k .by)) (forths (k .by) - backs (k .by)) (omega arith) in
         let s = descend-on a b pos works p q h (k .by) (k .circuit) (k .above) (r .top) (r .bottom) (r .positive) (r .lowest) (r .worth) in
         (r .top, r .bottom, s .0, s .1)
 
-    descend-all : (f c d : ℕ) (e : List Arc) → floors c d K < f → Top a b pos works c d e → (c′ d′ : ℕ) × (e′ : List Arc) × Top a b pos works c′ d′ e′ × Works arcs c′ d′
+    descend-all : (f c d : ℕ) (e : List Arc) → floors c d K < f → Top N B K arcs c d e → (c′ d′ : ℕ) × (e′ : List Arc) × Top N B K arcs c′ d′ e′ × Works arcs c′ d′
     descend-all zero c d e h t = absurd (omega arith)
     descend-all (suc f) c d e h t =
         elim (works-or-refuted arcs c d N (laid .within)) [
@@ -239,7 +240,7 @@ module _ (N B K : ℕ) (arcs : List Arc) (laid : Laid N B K arcs) where
               descend-all f (s .0) (s .1) (k .by) (omega (arith, descend-less a b pos works c d e (s .0) (s .1) (k .by) t (s .2) (s .3))) (s .2)
         ]
 
-    found-high : (low : List Arc) → Low a b low → Found
+    found-high : (low : List Arc) → Low N B K arcs a b low → Found
     found-high low l =
         let P : ℕ = suc (N * B) in
         elim (works-or-refuted arcs P 1 N (laid .within)) [
