@@ -1,0 +1,3 @@
+pub mod Laying
+pub mod Modes
+pub mod Windows
