@@ -9,8 +9,8 @@ use native.Mathlib.Numerals.{add-one}
 use lib.IntN.{ℤ}
 use lib.ListN.{length, getD, set, take, drop, length-drop}
 use lib.Seq.{getD-set-same, getD-set-other, take-all}
-use Rattle.records.specs.Records.{Lists, itemAt, modeWindows, Laid, Modes}
-use Rattle.records.proofs.Laying.{windows-few}
+use Rattle.layout.specs.Records.{Lists, itemAt, modeWindows, Laid, Modes}
+use Rattle.layout.proofs.Laying.{windows-few}
 
 pub modes-none : (tables : List ℤ) (n q : ℕ) (l : Lists) (start : List ℕ) → 0 < length start → Modes tables n q l (set start 0 0) 0 0
 modes-none tables n q l start h =

@@ -7,14 +7,14 @@ use lib.IntN.{pos}
 use lib.ListN.{length, getD}
 use Rattle.numbers.proofs.Signs.{passed}
 use Rattle.tables.proofs.Laws.{square}
-use Rattle.records.specs.Records.{Lists, lists, Room, Laid, windowsIn}
-use Rattle.records.proofs.Laying.{Same, same-none, room-next, laid-none, laid-more}
+use Rattle.layout.specs.Records.{Lists, lists, Room, Laid, windowsIn}
+use Rattle.layout.proofs.Laying.{Same, same-none, room-next, laid-none, laid-more}
 use borrow.Author.Needs.{needs}
-use Rattle.records.proofs.lay_mode.Statement.{statement}
-use Rattle.records.proofs.lay_mode.Tie as tie
-use Rattle.records.proofs.lay_mode.Reads as reads
-use Rattle.records.proofs.lay_mode.Lts as lts
-use Rattle.records.proofs.add.Reads as add-reads
+use Rattle.layout.proofs.lay_mode.Statement.{statement}
+use Rattle.layout.proofs.lay_mode.Tie as tie
+use Rattle.layout.proofs.lay_mode.Reads as reads
+use Rattle.layout.proofs.lay_mode.Lts as lts
+use Rattle.layout.proofs.add.Reads as add-reads
 
 abbrev Inv-loop : tie.InvT-loop
 Inv-loop part q n kind₀ to₀ from₀ up₀ down₀ s m w₀ k₀ kind to from up down w k = (k ≤ m) × Same (lists kind₀ to₀ from₀ up₀ down₀) (lists kind to from up down) × Laid q (windowsIn part n k) (lists kind₀ to₀ from₀ up₀ down₀) s (lists kind to from up down) w

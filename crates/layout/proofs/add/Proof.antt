@@ -8,15 +8,15 @@ use Rattle.numbers.proofs.Signs.{passed}
 use Rattle.tables.proofs.Laws.{square}
 use Rattle.tables.specs.Sheets.{absent}
 use Rattle.windows.specs.Arcs.{up, down}
-use Rattle.records.specs.Records.{Lists, lists}
-use Rattle.records.proofs.Laying.{kind-few, add-none, add-some}
+use Rattle.layout.specs.Records.{Lists, lists}
+use Rattle.layout.proofs.Laying.{kind-few, add-none, add-some}
 use borrow.Author.Needs.{needs}
-use Rattle.records.proofs.add.Statement.{statement}
-use Rattle.records.proofs.add.Tie as tie
-use Rattle.records.proofs.add.Reads as reads
-use Rattle.records.proofs.add.Lts as lts
-use Rattle.records.proofs.lower.Reads as lower-reads
-use Rattle.records.proofs.upper.Reads as upper-reads
+use Rattle.layout.proofs.add.Statement.{statement}
+use Rattle.layout.proofs.add.Tie as tie
+use Rattle.layout.proofs.add.Reads as reads
+use Rattle.layout.proofs.add.Lts as lts
+use Rattle.layout.proofs.lower.Reads as lower-reads
+use Rattle.layout.proofs.upper.Reads as upper-reads
 use Rattle.tables.proofs.is_absent.Reads as is-absent-reads
 
 abbrev S : tie.Start → Lists

@@ -7,8 +7,8 @@ ghost use Prim.Native.Nat.{ℕ, _+_, _-_, _*_, _/_, _%_, _≤_, _<_};
 ghost use lib.ListN.{length, getD};
 ghost use Rattle.tables.specs.Sheets.{absent};
 ghost use Rattle.windows.specs.Arcs.{up, down, unless};
-ghost use Rattle.records.specs.Records.{entry, lists, state, added, Room, windowsIn, windowOf, Laid, Modes};
-ghost use Rattle.records.specs.Edges.{edgeOf};
+ghost use Rattle.layout.specs.Records.{entry, lists, state, added, Room, windowsIn, windowOf, Laid, Modes};
+ghost use Rattle.layout.specs.Edges.{edgeOf};
 
 // How much a limit lies above 0, or 0.
 fn upper(value: i32) -> u64

@@ -2,13 +2,13 @@
 use native.Mathlib.Omega.{arith}
 use mathlib.Core.Path.{_≡_, refl, sym, ap, _∙_}
 use Prim.Native.Nat.{ℕ, zero, suc, _≤_}
-use Rattle.records.specs.Records.{Item}
-use Rattle.records.specs.Edges.{byKind, edge}
+use Rattle.layout.specs.Records.{Item}
+use Rattle.layout.specs.Edges.{byKind, edge}
 use borrow.Author.Needs.{needs}
-use Rattle.records.proofs.edge_of.Statement.{statement}
-use Rattle.records.proofs.edge_of.Tie as tie
-use Rattle.records.proofs.edge_of.Reads as reads
-use Rattle.records.proofs.edge_of.Lts as lts
+use Rattle.layout.proofs.edge_of.Statement.{statement}
+use Rattle.layout.proofs.edge_of.Tie as tie
+use Rattle.layout.proofs.edge_of.Reads as reads
+use Rattle.layout.proofs.edge_of.Lts as lts
 
 other : (k : ℕ) (a : Item) (here next cross : ℕ) → 4 ≤ k → edge 0 0 0 0 ≡ byKind k a here next cross
 unfolding byKind

@@ -1,7 +1,7 @@
 -- The arc of a record at a position, in the numbers that a round reads (document 01, "Arcs").
 use Prim.Native.Nat.{ℕ, zero, suc, _+_, _-_, _*_}
-use Rattle.records.specs.declared.Edge.{Edge}
-use Rattle.records.specs.Records.{Item}
+use Rattle.layout.specs.declared.Edge.{Edge}
+use Rattle.layout.specs.Records.{Item}
 
 abbrev pub edge : ℕ → ℕ → ℕ → ℕ → Edge
 edge d a u w = record { departure = d; arrival = a; rise = u; fall = w }

@@ -14,7 +14,7 @@ use lib.Seq.{getD-set-same, getD-set-other, getD-append-seam}
 use Rattle.tables.specs.Sheets.{absent}
 use Rattle.windows.specs.Windows.{number, Window}
 use Rattle.windows.specs.Arcs.{up, down, unless}
-use Rattle.records.specs.Records.{Item, entry, item, kindOf, windowOf, windowsIn, Lists, itemAt, put, Room, State, state, added, nothing, Laid}
+use Rattle.layout.specs.Records.{Item, entry, item, kindOf, windowOf, windowsIn, Lists, itemAt, put, Room, State, state, added, nothing, Laid}
 
 at-put : (s : Lists) (i : ℕ) (a : Item) → Room s (i + 1) → itemAt (put s i a) i ≡ a
 at-put s i a r =

@@ -6,10 +6,10 @@ use native.Mathlib.Numerals.{add-one}
 use lib.Signed.{mag}
 use Rattle.windows.specs.Arcs.{down}
 use borrow.Author.Needs.{needs}
-use Rattle.records.proofs.lower.Statement.{statement}
-use Rattle.records.proofs.lower.Tie as tie
-use Rattle.records.proofs.lower.Reads as reads
-use Rattle.records.proofs.lower.Lts as lts
+use Rattle.layout.proofs.lower.Statement.{statement}
+use Rattle.layout.proofs.lower.Tie as tie
+use Rattle.layout.proofs.lower.Reads as reads
+use Rattle.layout.proofs.lower.Lts as lts
 
 cast-result : tie.Need-cast-result
 cast-result c = rw (flip (c .before .args .value) (c .before .fits .value) (c .if1 .taken)) (tt, omega (arith, c .before .fits .value .sfits))

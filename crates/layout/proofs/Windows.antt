@@ -1,0 +1,139 @@
+-- The windows laid out of a mode's part are the windows of the sheet's mode, in their order: the place of kind, to and from is
+-- (kind·n + to - 1)·n + from - 1, so rising places are rising kinds, then tos, then froms.
+use mathlib.Core.Path.{_≡_, refl, sym, ap, ap₂, _∙_}
+use mathlib.Core.List.{List, [], _∷_, _++_, append-assoc}
+use Prim.Native.Nat.{ℕ, zero, suc, _+_, _-_, _*_, _/_, _%_, _≤_, _<_}
+use native.Mathlib.Omega.{arith}
+use native.Mathlib.Nat.{mul-pos, mul-le-mul-right, mul-add-div-right, mul-add-mod-self-right, div-eq-of-lt, mod-eq-of-lt}
+use lib.IntN.{ℤ, pos}
+use lib.ListN.{length, getD, drop}
+use lib.Seq.{getD-drop}
+use Rattle.tables.specs.Sheets.{Sheet, noWindow, absent, place, places}
+use Rattle.windows.specs.Windows.{Kind, A0, B0, A1, B1, number, Window, entry}
+use Rattle.windows.specs.Arcs.{oneTo, each, kinds, unless, windowAt, windowsTo, windowsOf, windows}
+use Rattle.windows.proofs.Listed.{each-more}
+use Rattle.windows.proofs.Limits.{number-small, place-below, getD-any}
+use Rattle.layout.specs.Records.{kindOf, windowOf, windowsIn, modeWindows}
+
+append-nil : {A : Type 0} (ws : List A) → ws ++ [] ≡ ws
+append-nil [] = refl
+append-nil {A} (w ∷ ws) = ap (λ (l : List A). w ∷ l) (append-nil ws)
+
+-- f 0, f 1, .., f (k - 1), joined
+upTo : {A : Type 0} → (ℕ → List A) → ℕ → List A
+upTo f zero = []
+upTo f (suc k) = upTo f k ++ f k
+
+up-to-add : {A : Type 0} (f : ℕ → List A) (a b c : ℕ) → a + b ≡ c → upTo f c ≡ upTo f a ++ upTo (λ j. f (a + j)) b
+unfolding upTo
+up-to-add f a zero c e = let h : c ≡ a = omega arith in rw h (sym (append-nil (upTo f a)))
+up-to-add f a (suc b) zero e = absurd (omega arith)
+up-to-add f a (suc b) (suc c) e =
+    let h : c ≡ a + b = omega arith in
+    ap₂ (λ (x y : List _). x ++ y) (up-to-add f a b c (sym h)) (ap f h) ∙ append-assoc (upTo f a) (upTo (λ j. f (a + j)) b) (f (a + b))
+
+row : {A : Type 0} (n : ℕ) (f g : ℕ → List A) → ((j : ℕ) → j < n → f j ≡ g (suc j)) → upTo f n ≡ each (oneTo n) g
+unfolding upTo
+row zero f g h = refl
+row (suc n) f g h = ap₂ (λ (x y : List _). x ++ y) (row n f g (λ j l. h j (omega arith))) (h n (omega arith)) ∙ sym (each-more n g)
+
+rows : {A : Type 0} (n m c : ℕ) (f : ℕ → List A) (g : ℕ → ℕ → List A) → m * n ≡ c → ((i j : ℕ) → i < m → j < n → f (i * n + j) ≡ g (suc i) (suc j))
+    → upTo f c ≡ each (oneTo m) (λ i. each (oneTo n) (g i))
+unfolding upTo
+rows n zero zero f g e h = refl
+rows n zero (suc c) f g e h = absurd (omega arith)
+rows n (suc m) c f g e h =
+    up-to-add f (m * n) n c (omega arith)
+    ∙ ap₂ (λ (x y : List _). x ++ y) (rows n m (m * n) f g refl (λ i j k l. h i j (omega arith) l)) (row n (λ j. f (m * n + j)) (g (suc m)) (λ j l. h m j (omega arith) l))
+    ∙ sym (each-more m (λ i. each (oneTo n) (g i)))
+
+four : {A : Type 0} (f : ℕ → List A) (m : ℕ) (a b c d : List A) → upTo (λ j. f (0 * m + j)) m ≡ a → upTo (λ j. f (1 * m + j)) m ≡ b → upTo (λ j. f (2 * m + j)) m ≡ c → upTo (λ j. f (3 * m + j)) m ≡ d
+    → upTo f (4 * m) ≡ a ++ (b ++ (c ++ (d ++ [])))
+unfolding upTo
+four f m a b c d p q r t =
+    up-to-add f (3 * m) m (4 * m) (omega arith)
+    ∙ ap₂ (λ (x y : List _). x ++ y)
+    (up-to-add f (2 * m) m (3 * m) (omega arith)
+    ∙ ap₂ (λ (x y : List _). x ++ y) (up-to-add f (1 * m) m (2 * m) (omega arith) ∙ ap₂ (λ (x y : List _). x ++ y) (up-to-add f (0 * m) m (1 * m) (omega arith) ∙ ap₂ (λ (x y : List _). x ++ y) (none (0 * m) (omega arith)) p) q) r)
+    t
+    ∙ simp (append-assoc, append-nil)
+  where
+    none : (k : ℕ) → k ≡ 0 → upTo f k ≡ []
+    none zero e = refl
+    none (suc k) e = absurd (omega arith)
+
+-- ---- the place of kind, to, from in a mode's part
+module _ (n k i j : ℕ) (to : i < n) (from : j < n) where
+  inside : i * n + j < n * n
+  inside = omega (arith, mul-le-mul-right {m = suc i} {n = n} n to)
+
+  again : k * (n * n) + (i * n + j) ≡ (k * n + i) * n + j
+  again = omega arith
+
+  kind-at : (k * (n * n) + (i * n + j)) / (n * n) ≡ k
+  kind-at = mul-add-div-right {m = n * n} (mul-pos (omega arith) (omega arith)) k (i * n + j) ∙ omega (arith, div-eq-of-lt inside)
+
+  to-at : (k * (n * n) + (i * n + j)) / n % n ≡ i
+  to-at =
+      ap (λ (x : ℕ). x / n % n) again
+      ∙ ap (λ (x : ℕ). x % n) (mul-add-div-right {m = n} (omega arith) (k * n + i) j ∙ omega (arith, div-eq-of-lt from))
+      ∙ mul-add-mod-self-right k n i
+      ∙ mod-eq-of-lt to
+
+  from-at : (k * (n * n) + (i * n + j)) % n ≡ j
+  from-at = ap (λ (x : ℕ). x % n) again ∙ mul-add-mod-self-right (k * n + i) n j ∙ mod-eq-of-lt from
+
+kind-back : (k : Kind) → kindOf (number k) ≡ k
+kind-back A0 = refl
+kind-back B0 = refl
+kind-back A1 = refl
+kind-back B1 = refl
+
+-- what the code looks at in each place
+cell : List ℤ → ℕ → ℕ → List Window
+cell part n k = unless (absent (getD part k (pos 0))) (windowOf n k (getD part k (pos 0)))
+
+cells : (part : List ℤ) (n k : ℕ) → windowsIn part n k ≡ upTo (cell part n) k
+unfolding windowsIn upTo cell
+cells part n zero = refl
+cells part n (suc k) = ap (λ (l : List Window). l ++ cell part n k) (cells part n k)
+
+place-at : (n t k i j : ℕ) → t * (4 * (n * n)) + (k * (n * n) + (i * n + j)) ≡ place n t k (suc i) (suc j)
+place-at n t k i j = plain ∙ ap₂ (λ (x y : ℕ). ((4 * t + k) * n + x) * n + y) (less i) (less j)
+  where
+    plain : t * (4 * (n * n)) + (k * (n * n) + (i * n + j)) ≡ ((4 * t + k) * n + i) * n + j
+    plain = omega arith
+
+    less : (x : ℕ) → x ≡ suc x - 1
+    less x = omega arith
+
+module _ (s : Sheet) (t : ℕ) (mode : t < s .m) (long : places (s .n) (s .m) ≤ length (s .tables)) where
+  part : List ℤ
+  part = drop (t * (4 * (s .n * s .n))) (s .tables)
+
+  value-at : (k : Kind) (i j : ℕ) → i < s .n → j < s .n → getD part (number k * (s .n * s .n) + (i * s .n + j)) (pos 0) ≡ entry s t k (suc i) (suc j)
+  unfolding part
+  value-at k i j to from =
+      let below = place-below (s .n) (s .m) t (number k) (suc i) (suc j) mode (number-small k) (omega arith) to (omega arith) from in
+      let same = place-at (s .n) t (number k) i j in
+      getD-drop (t * (4 * (s .n * s .n))) (s .tables) (number k * (s .n * s .n) + (i * s .n + j)) (pos 0)
+      ∙ ap (λ (x : ℕ). getD (s .tables) x (pos 0)) same
+      ∙ getD-any (s .tables) (place (s .n) t (number k) (suc i) (suc j)) (pos 0) noWindow (omega arith)
+
+  cell-at : (k : Kind) (i j : ℕ) → i < s .n → j < s .n → cell part (s .n) (number k * (s .n * s .n) + (i * s .n + j)) ≡ windowAt s t k (suc i) (suc j)
+  unfolding cell
+  cell-at k i j to from =
+      rw (value-at k i j to from, kind-at (s .n) (number k) i j to from, to-at (s .n) (number k) i j to from, from-at (s .n) (number k) i j to from, kind-back k) (rw (one i, one j))
+    where
+      one : (x : ℕ) → x + 1 ≡ suc x
+      one x = omega arith
+
+  kind-cells : (k : Kind) → upTo (λ j. cell part (s .n) (number k * (s .n * s .n) + j)) (s .n * s .n) ≡ windowsOf s t k
+  kind-cells k = rows (s .n) (s .n) (s .n * s .n) (λ j. cell part (s .n) (number k * (s .n * s .n) + j)) (windowAt s t k) refl (cell-at k)
+
+  -- THEOREM: the windows laid out for mode t are the windows present in mode t
+  pub mode-windows : modeWindows (s .tables) (s .n) t ≡ windows s t
+  unfolding modeWindows windows part
+  mode-windows =
+      cells part (s .n) (4 * (s .n * s .n))
+      ∙ four (cell part (s .n)) (s .n * s .n) (windowsOf s t A0) (windowsOf s t B0) (windowsOf s t A1) (windowsOf s t B1) (kind-cells A0) (kind-cells B0) (kind-cells A1) (kind-cells B1)

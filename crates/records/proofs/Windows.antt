@@ -1,1 +1,0 @@
--- The windows laid out of a mode's part are the windows of the sheet's mode, in their order: place (kind·n + to - 1)·n + from - 1.
