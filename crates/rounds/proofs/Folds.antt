@@ -1,0 +1,110 @@
+-- A pass is a fold of `raise` over the records of a position; what each record's step rests on follows from what the pass is handed.
+use mathlib.Core.Path.{_≡_, refl, sym, ap, ap₂, _∙_}
+use mathlib.Core.Bool.{Bool, true, false}
+use mathlib.Core.List.{List, [], _∷_, _++_}
+use Prim.Native.Nat.{ℕ, zero, suc, _+_, _-_, _*_, _≤_, _<_}
+use native.Mathlib.Omega.{arith}
+use borrow.Author.Tests.{lt-ltb, le-ltb}
+use lib.ListN.{length, getD, set}
+use Rattle.layout.specs.declared.Edge.{Edge}
+use Rattle.layout.specs.Records.{Item, Lists, itemAt}
+use Rattle.layout.specs.Edges.{byKind, edgeOf}
+use Rattle.rounds.specs.declared.Stand.{Stand}
+use Rattle.rounds.specs.Rounds.{Named, named, Board, board, asks, raise, after, span, Able, Fine, Stands, Boards}
+
+-- ---- folds
+module _ (old : List ℕ) (row : ℕ) where
+  pub after-append : (xs ys : List Named) (b : Board) → after old row (xs ++ ys) b ≡ after old row ys (after old row xs b)
+  unfolding after
+  after-append [] ys b = refl
+  after-append (x ∷ xs) ys b = after-append xs ys (raise old row x b)
+
+  after-more : (xs : List Named) (x : Named) (b : Board) → after old row (xs ++ x ∷ []) b ≡ raise old row x (after old row xs b)
+  unfolding after
+  after-more xs x b = after-append xs (x ∷ []) b
+
+span-snoc : {A : Type 0} (f : ℕ → A) (m a k : ℕ) → a + m ≡ k → span f a (suc m) ≡ span f a m ++ f k ∷ []
+unfolding span
+span-snoc f zero a k e = let h : a ≡ k = omega arith in rw h
+span-snoc {A} f (suc m) a k e = ap (λ (l : List A). f a ∷ l) (span-snoc f m (suc a) k (omega arith))
+
+-- no record yet, and one record more, as the code counts
+pub pass-none : (old : List ℕ) (row : ℕ) (f : ℕ → Named) (a : ℕ) (b : Board) → b ≡ after old row (span f a (a - a)) b
+unfolding span after
+pass-none old row f a b = let e : a - a ≡ 0 = omega arith in rw e
+
+pub pass-more : (old : List ℕ) (row : ℕ) (f : ℕ → Named) (a k : ℕ) (b c d : Board) → a ≤ k → c ≡ after old row (span f a (k - a)) b → d ≡ raise old row (f k) c
+    → d ≡ after old row (span f a (k + 1 - a)) b
+pass-more old row f a k b c d h e q =
+    q
+    ∙ ap (raise old row (f k)) e
+    ∙ sym (after-more old row (span f a (k - a)) (f k) b)
+    ∙ ap (λ (l : List Named). after old row l b) (sym (span-snoc f (k - a) a k (omega arith)))
+    ∙ ap (λ (m : ℕ). after old row (span f a m) b) (omega arith)
+
+-- ---- an arc's nodes and weight, by its kind
+pub record Inside (e : Edge) (N m : ℕ) : Type 0 where
+  pub departs : e .departure < N
+  pub arrives : e .arrival < N
+  pub rise : e .rise ≤ m
+  pub fall : e .fall ≤ m
+
+pub edge-inside : (k : ℕ) (a : Item) (here next cross n N m : ℕ) → 1 ≤ a .to → a .to ≤ n → 1 ≤ a .from → a .from ≤ n → here + n ≤ N → next + n ≤ N → a .up + cross ≤ m → a .down + cross ≤ m
+    → Inside (byKind k a here next cross) N m
+unfolding byKind
+edge-inside zero a here next cross n N m t t′ f f′ h x u d = record { departs = omega arith; arrives = omega arith; rise = omega arith; fall = omega arith }
+edge-inside (suc zero) a here next cross n N m t t′ f f′ h x u d = record { departs = omega arith; arrives = omega arith; rise = omega arith; fall = omega arith }
+edge-inside (suc (suc zero)) a here next cross n N m t t′ f f′ h x u d = record { departs = omega arith; arrives = omega arith; rise = omega arith; fall = omega arith }
+edge-inside (suc (suc (suc zero))) a here next cross n N m t t′ f f′ h x u d = record { departs = omega arith; arrives = omega arith; rise = omega arith; fall = omega arith }
+edge-inside (suc (suc (suc (suc k)))) a here next cross n N m t t′ f f′ h x u d = record { departs = omega arith; arrives = omega arith; rise = omega arith; fall = omega arith }
+
+pub fine-inside : (l : Lists) (n count N : ℕ) (at : Stand) (k : ℕ) → Fine l n count → Stands at n N → k < count → Inside (named (itemAt l k) at k .edge) N 2000000000
+fine-inside l n count N at k f s h =
+    edge-inside (getD (l .kinds) k 0) (itemAt l k) (at .here) (at .next) (at .cross) n N 2000000000 (f .to-first k h) (f .to-last k h) (f .from-first k h) (f .from-last k h) (s .here-in) (s .next-in)
+    (omega (arith, f .up-small k h, s .cross-small)) (omega (arith, f .down-small k h, s .cross-small))
+
+pub able : (l : Lists) (n e N : ℕ) (at : Stand) (k : ℕ) (old new marks : List ℕ) (row : ℕ) → Fine l n e → Stands at n N → Boards old new marks row N → k < e → Able (itemAt l k) at k old new marks row
+able l n e N at k old new marks row f s b h =
+    let i = fine-inside l n e N at k f s h in
+    record {
+      to-first = f .to-first k h;
+      from-first = f .from-first k h;
+      here-few = omega (arith, s .here-in, s .few);
+      next-few = omega (arith, s .next-in, s .few);
+      up-small = omega (arith, f .up-small k h);
+      down-small = omega (arith, f .down-small k h);
+      cross-small = omega (arith, s .cross-small);
+      first-few = s .mark-small;
+      few = omega (arith, f .few);
+      reach = record {
+        departs = omega (arith, i .departs, b .old-long);
+        arrives = omega (arith, i .arrives, b .new-long);
+        marks-in = omega (arith, i .arrives, b .marks-long);
+        sum-small = omega (arith, i .rise, b .small (named (itemAt l k) at k .edge .departure) (i .departs));
+      };
+    }
+
+-- the boards are as long as they were
+pub boards-same : (old new marks new′ marks′ : List ℕ) (row N : ℕ) → Boards old new marks row N → length new′ ≡ length new → length marks′ ≡ length marks → Boards old new′ marks′ row N
+boards-same old new marks new′ marks′ row N b p q =
+    record { old-long = b .old-long; new-long = omega (arith, b .new-long); marks-long = omega (arith, b .marks-long); small = b .small }
+
+one : (old : List ℕ) (row : ℕ) (b : Board) (m : ℕ) (e : Edge) (c : ℕ) → c ≡ asks (λ v. getD old v 0) e → getD (b .times) (e .arrival) 0 < c
+    → board (set (b .times) (e .arrival) c) (set (b .marks) (row + e .arrival) m) ≡ raise old row (record { mark = m; edge = e }) b
+unfolding raise
+one old row b m e c ask h = rw (← ask, lt-ltb (getD (b .times) (e .arrival) 0) c h)
+
+two : (old : List ℕ) (row : ℕ) (b : Board) (m : ℕ) (e : Edge) (c : ℕ) → c ≡ asks (λ v. getD old v 0) e → c ≤ getD (b .times) (e .arrival) 0 → b ≡ raise old row (record { mark = m; edge = e }) b
+unfolding raise
+two old row b m e c ask h = rw (← ask, le-ltb (getD (b .times) (e .arrival) 0) c h)
+
+-- ---- one arc, as the code has it: e is the arc, m its mark, c what it asks
+module _ (old : List ℕ) (row : ℕ) (a : Named) (b : Board) (m : ℕ) (e : Edge) (c : ℕ) (mark : m ≡ a .mark) (edge : e ≡ a .edge) (ask : c ≡ asks (λ v. getD old v 0) e) where
+  whole : raise old row (record { mark = m; edge = e }) b ≡ raise old row a b
+  whole = ap (λ (x : Named). raise old row x b) (ap₂ {C = Named} (λ (m : ℕ) (e : Edge). record { mark = m; edge = e }) mark edge)
+
+  pub raise-more : getD (b .times) (e .arrival) 0 < c → board (set (b .times) (e .arrival) c) (set (b .marks) (row + e .arrival) m) ≡ raise old row a b
+  raise-more h = one old row b m e c ask h ∙ whole
+
+  pub raise-same : c ≤ getD (b .times) (e .arrival) 0 → b ≡ raise old row a b
+  raise-same h = two old row b m e c ask h ∙ whole

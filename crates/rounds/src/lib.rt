@@ -1,0 +1,110 @@
+// The rounds: each walks the list of records, a mode's part at each position where it stands, and reads only the table before it.
+// This crate knows tables of times and, in one row per round, which arc raised each; it knows no sheet and no circuit.
+// It renders document 01's "Rounds".
+ghost use mathlib.Core.Path.{_≡_};
+ghost use Prim.Native.Nat.{ℕ, _+_, _-_, _*_, _≤_, _<_};
+ghost use lib.ListN.{length, getD};
+ghost use Rattle.layout.specs.Records.{entry, lists, itemAt};
+ghost use Rattle.layout.specs.Edges.{edgeOf};
+ghost use Rattle.rounds.specs.Rounds.{named, standOf, Able, board, raise, after, span, walked, Fine, Stands, Boards, Parts, Ran};
+
+// Where a position stands: the places of its events and of the next position's, what crossing to that costs, and the first of its marks.
+pub struct Stand {
+    pub here: usize,
+    pub next: usize,
+    pub cross: u64,
+    pub mark: usize,
+}
+
+// The position g + 1. After the last comes the first again, a cycle time later.
+pub fn stand_at(g: usize, n: usize, positions: usize, p: u64) -> Stand
+    requires { ⌜ (g < positions) × (positions ≤ 16) × (n ≤ 12) ⌝ }
+    ensures { λ r. ⌜ r ≡ standOf g n positions p ⌝ }
+{
+    if g + 1 == positions {
+        return Stand {
+            here: g * n,
+            next: 0,
+            cross: p,
+            mark: g * 4608,
+        };
+    }
+    Stand {
+        here: g * n,
+        next: (g + 1) * n,
+        cross: 0,
+        mark: g * 4608,
+    }
+}
+
+// a - b, or 0 where b is more.
+fn less(a: u64, b: u64) -> u64
+    ensures { λ r. ⌜ r ≡ a - b ⌝ }
+{
+    if b < a { a - b } else { 0 }
+}
+
+// The mark of the record k of a position.
+fn number(first: usize, k: usize) -> u32
+    requires { ⌜ (first ≤ 69120) × (k < 4608) ⌝ }
+    ensures { λ r. ⌜ r ≡ first + k + 1 ⌝ }
+{
+    (first + k + 1) as u32
+}
+
+// The arc of the record k raises the time at its arrival, where that is more than the new table has there.
+fn step(
+    kind: u8,
+    to: u8,
+    from: u8,
+    up: u64,
+    down: u64,
+    at: Stand,
+    k: usize,
+    old: &[u64],
+    new: &mut [u64],
+    marks: &mut [u32],
+    row: usize,
+)
+    requires { ⌜ Able (entry kind to from up down) at k (now old) (now new) (now marks) row ⌝ }
+    ensures { λ _. ⌜ board (now (new .exit)) (now (marks .exit)) ≡ raise (now (old .entry)) row (named (entry kind to from up down) at k) (board (now (new .entry)) (now (marks .entry))) ⌝ }
+{
+    let mark = number(at.mark, k);
+    let e = layout::edge_of(kind, to, from, up, down, at.here, at.next, at.cross);
+    let departure = e.departure;
+    let arrival = e.arrival;
+    let most = less(old[departure] + e.rise, e.fall);
+    if new[arrival] < most {
+        new[arrival] = most;
+        marks[row + arrival] = mark;
+    }
+}
+
+// The records from a to e, walked at a position.
+fn pass(
+    kind: &[u8],
+    to: &[u8],
+    from: &[u8],
+    up: &[u64],
+    down: &[u64],
+    a: usize,
+    e: usize,
+    n: usize,
+    nodes: usize,
+    at: Stand,
+    old: &[u64],
+    new: &mut [u64],
+    marks: &mut [u32],
+    row: usize,
+)
+    requires { ⌜ (a ≤ e) × Fine (lists (now kind) (now to) (now from) (now up) (now down)) n e × Stands at n nodes × Boards (now old) (now new) (now marks) row nodes ⌝ }
+    ensures { λ _. ⌜ board (now (new .exit)) (now (marks .exit)) ≡ after (now (old .entry)) row (span (λ k. named (itemAt (lists (now (kind .entry)) (now (to .entry)) (now (from .entry)) (now (up .entry)) (now (down .entry))) k) at k) a (e - a)) (board (now (new .entry)) (now (marks .entry))) ⌝ }
+{
+    let mut k = a;
+    while k < e {
+        step(
+            kind[k], to[k], from[k], up[k], down[k], at, k, old, new, marks, row,
+        );
+        k += 1;
+    }
+}
