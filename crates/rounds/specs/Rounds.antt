@@ -2,6 +2,7 @@
 -- These definitions face the code: what one arc, one position and one round do to a table of times and to the rows of marks.
 -- proofs/Tables ties them to the tables of the theory, proofs/Sheets to the arcs of a sheet.
 use mathlib.Core.Path.{_≡_}
+use mathlib.Core.Logic.{_≢_}
 use mathlib.Core.Bool.{Bool, true, false}
 use mathlib.Core.List.{List, [], _∷_, _++_, List·Memᴰ}
 use Prim.Native.Nat.{ℕ, zero, suc, _+_, _-_, _*_, _≤_, _<_, max}
@@ -127,13 +128,27 @@ pub record Able (a : Item) (at : Stand) (k : ℕ) (old new marks : List ℕ) (ro
   pub reach : Reach (edgeOf a (at .here) (at .next) (at .cross)) old new marks row
 
 -- Each position's mode has its part of the records.
-pub record Parts (start schedule : List ℕ) (positions count : ℕ) : Type 0 where
+pub record Parts (l : Lists) (n : ℕ) (start schedule : List ℕ) (positions : ℕ) : Type 0 where
   pub long : positions ≤ length schedule
   pub mode : (g : ℕ) → g < positions → getD schedule g 0 + 1 < length start
   pub rising : (g : ℕ) → g < positions → getD start (getD schedule g 0) 0 ≤ getD start (getD schedule g 0 + 1) 0
-  pub within : (g : ℕ) → g < positions → getD start (getD schedule g 0 + 1) 0 ≤ count
+  pub fine : (g : ℕ) → g < positions → Fine l n (getD start (getD schedule g 0 + 1) 0)
+
+-- The numbers of events and positions are within their limits, and so is p.
+pub record Limits (n positions p : ℕ) : Type 0 where
+  pub some-events : 1 ≤ n
+  pub few-events : n ≤ 12
+  pub some-positions : 1 ≤ positions
+  pub few-positions : positions ≤ 16
+  pub p-small : p ≤ 1000000000
 
 -- ---- what the rounds leave
+
+-- v is the first place below n where the lists differ, or n
+pub record Differs (xs ys : List ℕ) (n v : ℕ) : Type 0 where
+  pub within : v ≤ n
+  pub same : (k : ℕ) → k < v → getD xs k 0 ≡ getD ys k 0
+  pub other : v < n → getD xs v 0 ≢ getD ys v 0
 
 -- the mark of v in row r names the arc that raised v in round r + 1
 pub record Told (arcs : List Named) (marks : List ℕ) (r v : ℕ) : Type 0 where

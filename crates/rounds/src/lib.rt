@@ -6,7 +6,7 @@ ghost use Prim.Native.Nat.{ℕ, _+_, _-_, _*_, _≤_, _<_};
 ghost use lib.ListN.{length, getD};
 ghost use Rattle.layout.specs.Records.{entry, lists, itemAt};
 ghost use Rattle.layout.specs.Edges.{edgeOf};
-ghost use Rattle.rounds.specs.Rounds.{named, standOf, Able, board, raise, after, span, walked, Fine, Stands, Boards, Parts, Ran};
+ghost use Rattle.rounds.specs.Rounds.{named, standOf, Able, board, raise, after, span, walked, Fine, Stands, Boards, Parts, Limits, Differs, Ran};
 
 // Where a position stands: the places of its events and of the next position's, what crossing to that costs, and the first of its marks.
 pub struct Stand {
@@ -106,5 +106,105 @@ fn pass(
             kind[k], to[k], from[k], up[k], down[k], at, k, old, new, marks, row,
         );
         k += 1;
+    }
+}
+
+// One round: the positions in turn, each walking the records of its mode.
+fn round(
+    kind: &[u8],
+    to: &[u8],
+    from: &[u8],
+    up: &[u64],
+    down: &[u64],
+    start: &[usize],
+    schedule: &[u8],
+    n: usize,
+    positions: usize,
+    p: u64,
+    old: &[u64],
+    new: &mut [u64],
+    marks: &mut [u32],
+    row: usize,
+)
+    requires { ⌜ Limits n positions p × Parts (lists (now kind) (now to) (now from) (now up) (now down)) n (now start) (now schedule) positions × Boards (now old) (now new) (now marks) row (positions * n) ⌝ }
+    ensures { λ _. ⌜ board (now (new .exit)) (now (marks .exit)) ≡ after (now (old .entry)) row (walked (lists (now (kind .entry)) (now (to .entry)) (now (from .entry)) (now (up .entry)) (now (down .entry))) (now (start .entry)) (now (schedule .entry)) n positions p positions) (board (now (new .entry)) (now (marks .entry))) ⌝ }
+{
+    let nodes = positions * n;
+    let mut g: usize = 0;
+    while g < positions {
+        let t = schedule[g] as usize;
+        let a = start[t];
+        let e = start[t + 1];
+        let at = stand_at(g, n, positions, p);
+        pass(
+            kind, to, from, up, down, a, e, n, nodes, at, old, new, marks, row,
+        );
+        g += 1;
+    }
+}
+
+// The first of n places where two tables differ, or n.
+fn differs(xs: &[u64], ys: &[u64], n: usize) -> usize
+    requires { ⌜ (n ≤ length (now xs)) × (n ≤ length (now ys)) ⌝ }
+    ensures { λ r. ⌜ Differs (now (xs .entry)) (now (ys .entry)) n r ⌝ }
+{
+    let mut v: usize = 0;
+    while v < n {
+        if xs[v] != ys[v] {
+            return v;
+        }
+        v += 1;
+    }
+    v
+}
+
+// What the rounds came to: how many changed something, a node that the last of them raised, and the table after them.
+pub struct Ended {
+    pub rounds: usize,
+    pub node: usize,
+    pub times: [u64; 192],
+}
+
+// Runs rounds from table 0, which is all zeros, until one changes nothing, or N of them. Row r of the marks is that of round r + 1.
+pub fn run(
+    kind: &[u8],
+    to: &[u8],
+    from: &[u8],
+    up: &[u64],
+    down: &[u64],
+    start: &[usize],
+    schedule: &[u8],
+    n: usize,
+    positions: usize,
+    p: u64,
+    zeros: [u64; 192],
+    marks: &mut [u32],
+) -> Ended
+    requires { ⌜ Limits n positions p × Parts (lists (now kind) (now to) (now from) (now up) (now down)) n (now start) (now schedule) positions × ((v : ℕ) → getD zeros v 0 ≡ 0) × (length (now marks) ≡ 36864) ⌝ }
+    ensures { λ r. ⌜ Ran (walked (lists (now (kind .entry)) (now (to .entry)) (now (from .entry)) (now (up .entry)) (now (down .entry))) (now (start .entry)) (now (schedule .entry)) n positions p positions) (positions * n) (r .rounds) (r .node) (r .times) (now (marks .exit)) ⌝ }
+{
+    let nodes = positions * n;
+    let mut cur = zeros;
+    let mut node: usize = 0;
+    let mut r: usize = 0;
+    while r < nodes {
+        let old = cur;
+        round(
+            kind, to, from, up, down, start, schedule, n, positions, p, &old, &mut cur, marks, r * 192,
+        );
+        node = differs(&old, &cur, nodes);
+        if node == nodes {
+            return Ended {
+                rounds: r,
+                node: node,
+                times: cur,
+            };
+        }
+        r += 1;
+    }
+    Ended {
+        rounds: r,
+        node: node,
+        times: cur,
     }
 }
