@@ -1,6 +1,6 @@
 -- What a round does to the boards: each time becomes the larger of what it was and what the arcs ask, a time that was raised has the
 -- mark of an arc that asked exactly it, and the rows before stay. So the rounds hold the tables, and each mark names a cause.
-use mathlib.Core.Path.{_≡_, refl, sym, ap, _∙_}
+use mathlib.Core.Path.{_≡_, refl, sym, ap, subst, _∙_}
 use mathlib.Core.Logic.{_≢_, _⊎_, inl, inr}
 use mathlib.Core.Bool.{Bool, true, false}
 use mathlib.Core.List.{List, [], _∷_, _++_, List·Memᴰ, List·Memᴰ·head, List·Memᴰ·tail}
@@ -120,3 +120,130 @@ module _ (old : List ℕ) (row : ℕ) where
           | inr f ↦ inr (record { by = a; member = List·Memᴰ·head refl; marked = e .1 ∙ f .0; arrives = f .1; exact = ap (λ (x : ℕ). x + a .edge .fall) (e .0) ∙ f .2 })
         ]
       ]
+
+-- ---- the tables
+only-le : {A : Type 0} (d : Dec A) (n : ℕ) → only d n ≤ n
+only-le (yes p) n = omega arith
+only-le (no p) n = omega arith
+
+module _ (N : ℕ) where
+  most-agree : (arcs : List Named) → AllIn N arcs → (t u : ℕ → ℕ) → ((v : ℕ) → v < N → t v ≡ u v) → (v : ℕ) → mostOf arcs t v ≡ mostOf arcs u v
+  unfolding mostOf
+  most-agree [] i t u h v = refl
+  most-agree (a ∷ rest) i t u h v =
+      let e : asks t (a .edge) ≡ asks u (a .edge) = ap (λ (x : ℕ). x + a .edge .rise - a .edge .fall) (h (a .edge .departure) (i .0 .departs)) in
+      omega (arith, ap (only (ℕ-discrete (a .edge .arrival) v)) e, most-agree rest (i .1) t u h v)
+
+  most-bound : (arcs : List Named) → AllIn N arcs → (t : ℕ → ℕ) (m : ℕ) → ((v : ℕ) → t v ≤ m) → (v : ℕ) → mostOf arcs t v ≤ m + 2000000000
+  unfolding mostOf
+  most-bound [] i t m h v = omega arith
+  most-bound (a ∷ rest) i t m h v =
+      omega (arith, only-le (ℕ-discrete (a .edge .arrival) v) (asks t (a .edge)), h (a .edge .departure), i .0 .rise, most-bound rest (i .1) t m h v)
+
+  pub table-bound : (arcs : List Named) → AllIn N arcs → (r v : ℕ) → tableOf arcs r v ≤ r * 2000000000
+  unfolding tableOf
+  table-bound arcs i zero v = omega arith
+  table-bound arcs i (suc r) v = omega (arith, table-bound arcs i r v, most-bound arcs i (tableOf arcs r) (r * 2000000000) (table-bound arcs i r) v)
+
+pub table-grows : (arcs : List Named) (r v : ℕ) → tableOf arcs r v ≤ tableOf arcs (suc r) v
+unfolding tableOf
+table-grows arcs r v = omega arith
+
+-- r rounds are done: the times are table r, each changed something, and the marks name causes
+pub record Running (arcs : List Named) (N r node : ℕ) (times marks : List ℕ) : Type 0 where
+  pub table : (v : ℕ) → v < N → getD times v 0 ≡ tableOf arcs r v
+  pub rising : (k : ℕ) → k < r → (v : ℕ) × (v < N) × Rose arcs k v
+  pub told : (k v : ℕ) → k < r → v < N → Rose arcs k v → Told arcs marks k v
+  pub last : 0 < r → (node < N) × Rose arcs (r - 1) node
+
+pub running-none : (arcs : List Named) (N node : ℕ) (times marks : List ℕ) → ((v : ℕ) → getD times v 0 ≡ 0) → Running arcs N 0 node times marks
+unfolding tableOf
+running-none arcs N node times marks zeros =
+    record { table = λ v h. zeros v; rising = λ k h. absurd (omega arith); told = λ k v h l. absurd (omega arith); last = λ h. absurd (omega arith) }
+
+-- what a round is handed
+pub running-boards : (arcs : List Named) (N r node : ℕ) (times marks : List ℕ) → AllIn N arcs → N ≤ 192 → r < N → length times ≡ 192 → length marks ≡ 36864 → Running arcs N r node times marks → Boards times times marks (r * 192) N
+running-boards arcs N r node times marks inside few h lt lm b =
+    record { old-long = omega arith; new-long = omega arith; marks-long = omega arith; small = λ v k. omega (arith, b .table v k, table-bound N arcs inside r v) }
+
+module _ (arcs : List Named) (N r node : ℕ) (old marks new′ marks′ : List ℕ) (inside : AllIn N arcs) (few : N ≤ 192) (more : r < N) (lt : length old ≡ 192) (lm : length marks ≡ 36864) (b : Running arcs N r node old marks)
+    (done : board new′ marks′ ≡ after old (r * 192) arcs (board old marks)) where
+  times-next : (v : ℕ) → v < N → getD new′ v 0 ≡ tableOf arcs (suc r) v
+  unfolding tableOf
+  times-next v h =
+      ap (λ (x : Board). getD (x .times) v 0) done
+      ∙ after-at old (r * 192) arcs (board old marks) v (omega arith)
+      ∙ omega (arith, b .table v h, most-agree N arcs inside (λ v. getD old v 0) (tableOf arcs r) (b .table) v)
+
+  told-next : (v : ℕ) → v < N → Rose arcs r v → Told arcs marks′ r v
+  told-next v h rose =
+      elim (after-cause old (r * 192) arcs (board old marks) v (omega arith) (omega arith)) [
+        | inl e ↦ absurd (omega (arith, times-next v h, b .table v h, e .0, ap (λ (x : Board). getD (x .times) v 0) done))
+        | inr c ↦ record {
+          by = c .by;
+          member = c .member;
+          marked = ap (λ (x : Board). getD (x .marks) (r * 192 + v) 0) done ∙ c .marked;
+          arrives = c .arrives;
+          exact = omega (arith, times-next v h, ap (λ (x : Board). getD (x .times) v 0) done, c .exact, b .table (c .by .edge .departure) (all-in N arcs inside (c .member) .departs));
+        }
+      ]
+
+  told-kept : (k v : ℕ) → k < r → v < N → Rose arcs k v → Told arcs marks′ k v
+  told-kept k v h l rose =
+      let t = b .told k v h l rose in
+      record {
+        by = t .by;
+        member = t .member;
+        marked = ap (λ (x : Board). getD (x .marks) (k * 192 + v) 0) done ∙ after-before old (r * 192) arcs (board old marks) (k * 192 + v) (omega arith) ∙ t .marked;
+        arrives = t .arrives;
+        exact = t .exact;
+      }
+
+  -- the round changed something
+  pub running-more : (d : ℕ) → Differs old new′ N d → (d ≡ N → ⊥) → Running arcs N (r + 1) d new′ marks′
+  running-more d f not =
+      let h : d < N = omega (arith, f .within) in
+      let rose : Rose arcs r d = go (f .other h) h in
+      rw (add-one r) (record {
+        table = times-next;
+        rising = λ k l. elim (decLt k r) [
+          | yes j ↦ b .rising k j
+          | no j ↦ let e : k ≡ r = omega arith in rw e (d, h, rose)
+        ];
+        told = λ k v l i x. elim (decLt k r) [
+          | yes j ↦ told-kept k v j i x
+          | no j ↦ let e : k ≡ r = omega arith in rw e (told-next v i (rw e at x))
+        ];
+        last = λ l. let e : r ≡ suc r - 1 = omega arith in (h, subst (λ (k : ℕ). Rose arcs k d) e rose);
+      })
+    where
+      go : {d : ℕ} → getD old d 0 ≢ getD new′ d 0 → d < N → Rose arcs r d
+      go {d} n h = elim (decLt (tableOf arcs r d) (tableOf arcs (suc r) d)) [
+        | yes j ↦ j
+        | no j ↦ absurd (n (omega (arith, b .table d h, times-next d h, table-grows arcs r d)))
+      ]
+
+  -- the round changed nothing
+  pub ran-still : (d : ℕ) → Differs old new′ N d → d ≡ N → Ran arcs N r d new′ marks′
+  ran-still d f e =
+      let same : (v : ℕ) → v < N → tableOf arcs (suc r) v ≡ tableOf arcs r v = (λ v h. omega (arith, times-next v h, b .table v h, f .same v (omega arith))) in
+      record {
+        few = omega arith;
+        still = λ h. same;
+        table = λ v h. times-next v h ∙ same v h;
+        rising = b .rising;
+        told = told-kept;
+        last = λ h. absurd (omega arith);
+      }
+
+-- N rounds changed something
+pub ran-all : (arcs : List Named) (N r node : ℕ) (times marks : List ℕ) → r ≡ N → 0 < N → Running arcs N r node times marks → Ran arcs N r node times marks
+ran-all arcs N r node times marks e some b =
+    record {
+      few = omega arith;
+      still = λ h. absurd (omega arith);
+      table = b .table;
+      rising = b .rising;
+      told = b .told;
+      last = λ h. rw e at (b .last (omega arith));
+    }
