@@ -1,0 +1,61 @@
+use Rattle.sheet.proofs.Windows.{clear-next, clear-done}
+use Rattle.tables.specs.Sheets.{noWindow}
+use mathlib.Core.Path.{_≡_, refl, sym, ap, _∙_}
+use mathlib.Core.List.{List}
+use Prim.Native.Nat.{ℕ, _+_, _-_, _*_, _≤_, _<_}
+use native.Mathlib.Omega.{arith}
+use native.Mathlib.Nat.{sub-zero}
+use lib.ListN.{length, set, replicate, length-set}
+use lib.Seq.{sets, set-out}
+use lib.IntN.{ℤ}
+use borrow.Author.Needs.{needs}
+use Rattle.sheet.proofs.clear.Statement.{statement}
+use Rattle.sheet.proofs.clear.Tie as tie
+use Rattle.sheet.proofs.clear.Reads as reads
+use Rattle.sheet.proofs.clear.Lts as lts
+use Rattle.sheet.proofs.put_value.Reads as put-value-reads
+
+abbrev Inv-loop : tie.InvT-loop
+Inv-loop part₀ size k₀ part k = (k ≤ size) × (length part ≡ length part₀) × (sets part k (replicate (size - k) noWindow) ≡ sets part₀ 0 (replicate size noWindow))
+
+abbrev μ-loop : tie.MeasureT-loop
+μ-loop part₀ size k₀ part k = size - k
+
+loop-holds : tie.Need-loop-holds Inv-loop μ-loop
+loop-holds c = (omega arith, refl, ap (λ (m : ℕ). sets (c .args .part .now) 0 (replicate m noWindow)) (sub-zero (c .args .size)))
+
+put-value-requires : tie.Need-put-value-requires Inv-loop μ-loop
+put-value-requires c κs = search needs
+
+add-k : tie.Need-add-k Inv-loop μ-loop
+add-k c = search needs
+
+loop-less : tie.Need-loop-less Inv-loop μ-loop
+loop-less c = search needs
+
+loop-again : tie.Need-loop-again Inv-loop μ-loop
+loop-again c = let v = c .before in let l = v .before .before .before in let s = l .before in (
+  omega arith,
+  v .put-value .kept .0 ∙ l .loop .inv .1,
+  rw (v .put-value .ensures) (clear-next (l .loop .part) (s .args .size) (l .loop .k) _ (l .loop .inv .2) (omega arith)),
+)
+
+same-length : tie.Need-same-length Inv-loop μ-loop
+same-length c = search needs
+
+returns : tie.Need-returns Inv-loop μ-loop
+returns c = let l = c .before in clear-done (l .loop .part) (l .before .args .size) (l .loop .k) _ (l .loop .inv .2) (c .loop-test .left)
+
+pub clear-spec : {M : Type 1} → statement M
+clear-spec =
+    tie.close
+    (tie.spec
+    Inv-loop
+    μ-loop
+    loop-holds
+    put-value-requires
+    add-k
+    loop-less
+    loop-again
+    same-length
+    returns)

@@ -1,0 +1,137 @@
+-- The sheet file as it is read (document 01, "The sheet file", "Numbers a call can answer").
+-- "Order: format number 1; n; m; V; V mode numbers from 0; then for each mode a count and that many records of kind, to, from, value."
+-- "The reader checks each number as soon as it is read, left to right; 7 follows a record's fourth number; 8 after the last record".
+use Prim.Native.Nat.{ℕ, zero, suc, _+_, _-_, _*_}
+use mathlib.Core.Bool.{Bool, true, false}
+use mathlib.Core.List.{List, [], _∷_, _++_}
+use lib.Dec.{leb, ltb, eqb}
+use lib.ListN.{length, set, replicate}
+use lib.IntN.{ℤ}
+use Rattle.numbers.specs.Groups.{pick, numberAt}
+use Rattle.numbers.specs.Signs.{decoded}
+use Rattle.numbers.specs.declared.Number.{Number}
+use Rattle.numbers.specs.declared.Number.the-variants.{Value, Refused}
+use Rattle.tables.specs.Sheets.{Sheet, sheet, noWindow, inLimit, within}
+
+-- a part of the file: what was read and the place after it, or the number of the refusal
+pub data Part (A : Type 0) : Type 0 where
+  got : A → ℕ → Part A
+  refused : ℕ → Part A
+
+-- "checks each number as soon as it is read": the number, or the refusal k where the test fails
+unfoldable pub tested : (ℕ → Bool) → ℕ → Number → Number
+tested ok k (Value v next) = pick (ok v) (Value v next) (Refused k)
+tested ok k (Refused j) = Refused j
+
+-- "left to right": what follows a number, and what follows a part
+unfoldable pub after : {A : Type 0} → Number → (ℕ → ℕ → Part A) → Part A
+after (Value v next) go = go v next
+after (Refused k) go = refused k
+
+unfoldable pub andThen : {A B : Type 0} → Part A → (A → ℕ → Part B) → Part B
+andThen (got a next) go = go a next
+andThen (refused k) go = refused k
+
+-- a window of a mode: where it stands in the mode's part of the tables, and its limit
+pub record Window : Type 0 where
+  pub place : ℕ
+  pub limit : ℤ
+
+abbrev pub window : ℕ → ℤ → Window
+window p v = record { place = p; limit = v }
+
+-- the place of kind, to, from in "the part of the tables that starts at 4t·n²"
+abbrev pub inMode : ℕ → ℕ → ℕ → ℕ → ℕ
+inMode n kind to from = (kind * n + (to - 1)) * n + (from - 1)
+
+-- 7, "records not strictly rising": by kind, then to, then from is by place, and `low` is the first place above the record before
+unfoldable pub rising : ℕ → ℕ → ℤ → ℕ → Part Window
+rising low p v next = pick (leb low p) (got (window p v) next) (refused 7)
+
+-- a record. 6: "kind above 3, event not 1..n, value past its limit"
+unfoldable pub windowAt : List ℕ → ℕ → ℕ → ℕ → Part Window
+windowAt file n low at =
+    after (tested (λ kind. leb kind 3) 6 (numberAt file at)) λ kind a.
+    after (tested (within n) 6 (numberAt file a)) λ to b.
+    after (tested (within n) 6 (numberAt file b)) λ from c.
+    after (tested (λ u. inLimit (decoded u)) 6 (numberAt file c)) λ u d.
+    rising low (inMode n kind to from) (decoded u) d
+
+-- so many records, the first of them at or above the place `low`
+unfoldable pub windowsAt : List ℕ → ℕ → ℕ → ℕ → ℕ → Part (List Window)
+windowsAt file n zero low at = got [] at
+windowsAt file n (suc count) low at =
+    andThen (windowAt file n low at) λ w a.
+    andThen (windowsAt file n count (w .place + 1) a) λ rest b.
+    got (w ∷ rest) b
+
+-- a mode: "a count and that many records". 6: "count above 4·n²"
+unfoldable pub modeAt : List ℕ → ℕ → ℕ → Part (List Window)
+modeAt file n at =
+    after (tested (λ count. leb count (4 * (n * n))) 6 (numberAt file at)) λ count a.
+    windowsAt file n count 0 a
+
+-- "then for each mode"
+unfoldable pub modesAt : List ℕ → ℕ → ℕ → ℕ → Part (List (List Window))
+modesAt file n zero at = got [] at
+modesAt file n (suc m) at =
+    andThen (modeAt file n at) λ windows a.
+    andThen (modesAt file n m a) λ rest b.
+    got (windows ∷ rest) b
+
+-- the windows at their places
+unfoldable pub put : List Window → List ℤ → List ℤ
+put [] part = part
+put (w ∷ rest) part = put rest (set part (w .place) (w .limit))
+
+-- a mode's part of the tables: its windows, and "no window" at every other place
+unfoldable pub laid : ℕ → List Window → List ℤ
+laid size windows = put windows (replicate size noWindow)
+
+-- the tables: one mode's part after the other
+unfoldable pub tablesOf : ℕ → List (List Window) → List ℤ
+tablesOf n [] = []
+tablesOf n (windows ∷ rest) = laid (4 * (n * n)) windows ++ tablesOf n rest
+
+-- all that follows the schedule, which ends the file. 8: "bytes after the sheet"
+unfoldable pub ended : List ℕ → List ℤ → ℕ → Part (List ℤ)
+ended file tables next = pick (eqb next (length file)) (got tables next) (refused 8)
+
+unfoldable pub tablesAt : List ℕ → ℕ → ℕ → ℕ → Part (List ℤ)
+tablesAt file n m at =
+    andThen (modesAt file n m at) λ modes a.
+    ended file (tablesOf n modes) a
+
+-- "V mode numbers from 0". 5: "schedule names a mode not below m"
+unfoldable pub scheduleAt : List ℕ → ℕ → ℕ → ℕ → Part (List ℕ)
+scheduleAt file m zero at = got [] at
+scheduleAt file m (suc positions) at =
+    after (tested (λ t. ltb t m) 5 (numberAt file at)) λ t a.
+    andThen (scheduleAt file m positions a) λ rest b.
+    got (t ∷ rest) b
+
+-- n, m and V
+pub record Counts : Type 0 where
+  pub n : ℕ
+  pub m : ℕ
+  pub positions : ℕ
+
+abbrev pub counts : ℕ → ℕ → ℕ → Counts
+counts n m positions = record { n = n; m = m; positions = positions }
+
+-- "format number 1; n; m; V". 3: "format number not 1"; 4: "n, m or V past its limit"
+unfoldable pub countsAt : List ℕ → ℕ → Part Counts
+countsAt file at =
+    after (tested (λ format. eqb format 1) 3 (numberAt file at)) λ format a.
+    after (tested (within 12) 4 (numberAt file a)) λ n b.
+    after (tested (within 8) 4 (numberAt file b)) λ m c.
+    after (tested (within 16) 4 (numberAt file c)) λ positions d.
+    got (counts n m positions) d
+
+-- the sheet that the bytes are, or their refusal
+unfoldable pub sheetIn : List ℕ → Part Sheet
+sheetIn file =
+    andThen (countsAt file 0) λ c a.
+    andThen (scheduleAt file (c .m) (c .positions) a) λ schedule b.
+    andThen (tablesAt file (c .n) (c .m) b) λ tables d.
+    got (sheet (c .n) (c .m) (c .positions) tables schedule) d
