@@ -5,3 +5,4 @@ pub mod Windows
 pub mod Sets
 pub mod Modes
 pub mod Schedules
+pub mod Sheets

@@ -65,3 +65,8 @@ unwalked store (got a p) was now r k e h = absurd (never (sym e ∙ h .0))
     never : ending.Refused k ≡ ending.At p → ⊥
     never e = let z : _≡_ {A = ℕ} 0 1 = cc in omega arith
 unwalked store (refused j) was now r k e h = let q : j ≡ k = cc in ap refused q
+
+-- a walk that came to its end
+pub arrived : {A B : Type 0} (store : List B → A → List B) (x : Part A) (was now : List B) (a : A) (next : ℕ) → x ≡ got a next → now ≡ store was a → Walks store x was (ending.At next) now
+unfolding Walks
+arrived store x was now a next e q = rw e (refl, q)

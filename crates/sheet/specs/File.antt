@@ -128,10 +128,13 @@ countsAt file at =
     after (tested (within 16) 4 (numberAt file c)) λ positions d.
     got (counts n m positions) d
 
+-- all that follows n, m and V
+unfoldable pub sheetAfter : List ℕ → Counts → ℕ → Part Sheet
+sheetAfter file c at =
+    andThen (scheduleAt file (c .m) (c .positions) at) λ schedule a.
+    andThen (tablesAt file (c .n) (c .m) a) λ tables b.
+    got (sheet (c .n) (c .m) (c .positions) tables schedule) b
+
 -- the sheet that the bytes are, or their refusal
 unfoldable pub sheetIn : List ℕ → Part Sheet
-sheetIn file =
-    andThen (countsAt file 0) λ c a.
-    andThen (scheduleAt file (c .m) (c .positions) a) λ schedule b.
-    andThen (tablesAt file (c .n) (c .m) b) λ tables d.
-    got (sheet (c .n) (c .m) (c .positions) tables schedule) d
+sheetIn file = andThen (countsAt file 0) (sheetAfter file)

@@ -9,7 +9,7 @@ ghost use lib.Seq.{sets};
 ghost use Rattle.numbers.specs.Groups.{numberAt};
 ghost use Rattle.numbers.specs.Signs.{decoded};
 ghost use Rattle.tables.specs.Sheets.{noWindow};
-ghost use Rattle.sheet.specs.File.{tested, windowAt, windowsAt, modeAt, modesAt, scheduleAt, countsAt, sheetIn, put, laid, tablesOf};
+ghost use Rattle.sheet.specs.File.{tested, windowAt, windowsAt, modeAt, modesAt, scheduleAt, counts, countsAt, tablesAt, sheetAfter, sheetIn, put, laid, tablesOf};
 ghost use Rattle.sheet.specs.Answers.{Reads};
 ghost use Rattle.sheet.specs.Steps.{between, refusedNumber, foundPart, headPart, Walks, Fills};
 ghost use lib.Dec.{leb};
@@ -302,4 +302,78 @@ fn read_head(file: &[u8]) -> Head
         positions,
         next,
     }
+}
+
+// Reads all that follows the schedule, to the end of the file.
+fn read_tables(file: &[u8], n: usize, m: usize, at: usize, tables: &mut [i32]) -> Ending
+    requires { ⌜ (n ≤ 12) × (m ≤ 8) ⌝ }
+    ensures { λ r. ⌜ Walks (λ was values. sets was 0 values) (tablesAt (now (file .entry)) n m at) (now (tables .entry)) r (now (tables .exit)) ⌝ }
+{
+    match read_modes(file, n, m, at, tables) {
+        Ending::At { next } => {
+            if next == file.len() {
+                Ending::At { next }
+            } else {
+                Ending::Refused { number: 8 }
+            }
+        }
+        Ending::Refused { number } => Ending::Refused { number },
+    }
+}
+
+// Reads all that follows n, m and V.
+fn read_rest(
+    file: &[u8],
+    n: usize,
+    m: usize,
+    positions: usize,
+    at: usize,
+    tables: &mut [i32],
+    schedule: &mut [u8],
+) -> Read
+    requires { ⌜ (n ≤ 12) × (1 ≤ m) × (m ≤ 8) ⌝ }
+    ensures { λ r. ⌜ Fills (sheetAfter (now (file .entry)) (counts n m positions) at) (now (tables .entry)) (now (schedule .entry)) r (now (tables .exit)) (now (schedule .exit)) ⌝ }
+{
+    match read_schedule(file, m, positions, at, schedule) {
+        Ending::At { next } => match read_tables(file, n, m, next, tables) {
+            Ending::At { next: _ } => Read::Done { n, m, positions },
+            Ending::Refused { number } => Read::Refused { number },
+        },
+        Ending::Refused { number } => Read::Refused { number },
+    }
+}
+
+// Reads the file into tables and schedule, as far as these have room.
+fn read_into(file: &[u8], tables: &mut [i32], schedule: &mut [u8]) -> Read
+    ensures { λ r. ⌜ Fills (sheetIn (now (file .entry))) (now (tables .entry)) (now (schedule .entry)) r (now (tables .exit)) (now (schedule .exit)) ⌝ }
+{
+    match read_head(file) {
+        Head::Counts {
+            n,
+            m,
+            positions,
+            next,
+        } => read_rest(file, n, m, positions, next, tables, schedule),
+        Head::Refused { number } => Read::Refused { number },
+    }
+}
+
+// Reads a sheet file into the caller's tables and schedule. The first walk has no room to write, so
+// that a refusal alters nothing; the second fills 4·m·n² and V places.
+pub fn read_sheet(file: &[u8], tables: &mut [i32], schedule: &mut [u8]) -> Read
+    ensures { λ r. ⌜ Reads (now (file .entry)) (now (tables .entry)) (now (schedule .entry)) r (now (tables .exit)) (now (schedule .exit)) ⌝ }
+{
+    let mut no_tables = [0i32; 1];
+    let mut no_schedule = [0u8; 1];
+    let judged = read_into(file, &mut no_tables, &mut no_schedule);
+    let Read::Done { n, m, positions } = judged else {
+        return judged;
+    };
+    if tables.len() < 4 * m * (n * n) {
+        return Read::Refused { number: 9 };
+    }
+    if schedule.len() < positions {
+        return Read::Refused { number: 9 };
+    }
+    read_into(file, tables, schedule)
 }

@@ -1,0 +1,218 @@
+-- A sheet that was read: what its parts are, and what the buffers hold.
+use mathlib.Core.Path.{_≡_, refl, sym, ap, _∙_}
+use mathlib.Core.Bool.{Bool, true, false, _&&_}
+use mathlib.Core.List.{List, [], _∷_, _++_}
+use Prim.Native.Nat.{ℕ, zero, suc, _+_, _-_, _*_, _≤_, _<_}
+use native.Mathlib.Omega.{arith}
+use native.Mathlib.Nat.{mul-assoc, mul-comm, suc-mul, mul-left-comm}
+use borrow.Author.Tests.{ltb-true, eqb-true, eq-eqb, ne-eqb, le-leb, lt-leb}
+use lib.Dec.{leb, ltb, eqb}
+use lib.IntN.{ℤ}
+use lib.ListN.{length, take, drop, getD, length-append}
+use lib.Seq.{sets, sets-eq}
+use Rattle.numbers.specs.Groups.{pick, numberAt}
+use Rattle.numbers.specs.declared.Number.the-variants.{Value}
+use Rattle.tables.specs.Sheets.{Sheet, sheet, places, within}
+use Rattle.tables.proofs.Laws.{within-is}
+use Rattle.sheet.specs.File.{Part, got, refused, andThen, Window, Counts, counts, countsAt, scheduleAt, modesAt, tablesOf, laid, ended, tablesAt, sheetAfter, sheetIn}
+use Rattle.sheet.specs.Answers.{Answer, answerRead, Reading, reading, unread, readInto, readOf, Reads}
+use Rattle.sheet.specs.Steps.{Fills}
+use Rattle.sheet.specs.declared.Read.{Read}
+use Rattle.sheet.specs.declared.Read.the-variants as read
+use Rattle.sheet.proofs.Numbers.{after-got, tested-value}
+use Rattle.sheet.proofs.Walking.{then-got, then-value, then-refused}
+use Rattle.sheet.proofs.Modes.{length-laid}
+
+-- ---- n, m and V
+pub record Counted (file : List ℕ) (at : ℕ) (c : Counts) (next : ℕ) : Type 0 where
+  pub a : ℕ
+  pub b : ℕ
+  pub d : ℕ
+  pub format-at : numberAt file at ≡ Value 1 a
+  pub n-at : numberAt file a ≡ Value (c .n) b
+  pub m-at : numberAt file b ≡ Value (c .m) d
+  pub positions-at : numberAt file d ≡ Value (c .positions) next
+  pub some-events : 1 ≤ c .n
+  pub few-events : c .n ≤ 12
+  pub some-modes : 1 ≤ c .m
+  pub few-modes : c .m ≤ 8
+  pub some-positions : 1 ≤ c .positions
+  pub few-positions : c .positions ≤ 16
+
+same-counts : (n m v : ℕ) (e : ℕ) (c : Counts) (next : ℕ) → got (counts n m v) e ≡ got c next → (c ≡ counts n m v) × (e ≡ next)
+same-counts n m v e c next h = (cc, cc)
+
+pub counted : (file : List ℕ) (at : ℕ) (c : Counts) (next : ℕ) → countsAt file at ≡ got c next → Counted file at c next
+unfolding countsAt
+counted file at c next h =
+    let f = after-got _ _ _ _ h in
+    let n = after-got _ _ _ _ (f .rest) in
+    let m = after-got _ _ _ _ (n .rest) in
+    let v = after-got _ _ _ _ (m .rest) in
+    let fv = tested-value _ _ _ _ _ (f .is) in
+    let nv = tested-value _ _ _ _ _ (n .is) in
+    let mv = tested-value _ _ _ _ _ (m .is) in
+    let vv = tested-value _ _ _ _ _ (v .is) in
+    let q = same-counts (n .value) (m .value) (v .value) (v .place) c next (v .rest) in
+    let nw = within-is 12 (n .value) (nv .1) in
+    let mw = within-is 8 (m .value) (mv .1) in
+    let vw = within-is 16 (v .value) (vv .1) in
+    rw (q .0) (record {
+      a = f .place;
+      b = n .place;
+      d = m .place;
+      format-at = fv .0 ∙ ap (λ (k : ℕ). Value k (f .place)) (eqb-true (f .value) 1 (fv .1));
+      n-at = nv .0;
+      m-at = mv .0;
+      positions-at = vv .0 ∙ ap (λ (k : ℕ). Value (v .value) k) (q .1);
+      some-events = nw .0;
+      few-events = nw .1;
+      some-modes = mw .0;
+      few-modes = mw .1;
+      some-positions = vw .0;
+      few-positions = vw .1;
+    })
+
+-- ---- the schedule
+pub length-schedule : (file : List ℕ) (m positions at : ℕ) (schedule : List ℕ) (next : ℕ) → scheduleAt file m positions at ≡ got schedule next → length schedule ≡ positions
+unfolding scheduleAt
+length-schedule file m zero at schedule next h = let e : schedule ≡ [] = cc in rw e
+length-schedule file m (suc positions) at schedule next h =
+    let t = after-got _ _ _ _ h in
+    let r = then-got _ _ _ _ (t .rest) in
+    let e : schedule ≡ t .value ∷ r .thing = cc (r .rest) in
+    rw e (ap suc (length-schedule file m positions (t .place) (r .thing) (r .place) (r .is)))
+
+-- ---- the tables
+pub record Tabled (file : List ℕ) (n m at : ℕ) (tables : List ℤ) (next : ℕ) : Type 0 where
+  pub modes : List (List Window)
+  pub are : modesAt file n m at ≡ got modes next
+  pub is : tables ≡ tablesOf n modes
+  pub ends : next ≡ length file
+
+record Ended (file : List ℕ) (tables : List ℤ) (p : ℕ) (values : List ℤ) (next : ℕ) : Type 0 where
+  is : values ≡ tables
+  ends : next ≡ length file
+  same : p ≡ next
+
+closed : (file : List ℕ) (tables : List ℤ) (p : ℕ) (values : List ℤ) (next : ℕ) → ended file tables p ≡ got values next → Ended file tables p values next
+unfolding ended
+closed file tables p values next h = cases (eqb p (length file)) refl h
+  where
+    never : _≡_ {A = Part (List ℤ)} (refused 8) (got values next) → ⊥
+    never e = let z : _≡_ {A = ℕ} 0 1 = cc in omega arith
+
+    cases : (b : Bool) → eqb p (length file) ≡ b → pick b (got tables p) (refused 8) ≡ got values next → Ended file tables p values next
+    cases true q h = let z : p ≡ next = cc in record { is = cc; ends = sym z ∙ eqb-true p (length file) q; same = z }
+    cases false q h = absurd (never h)
+
+pub tabled : (file : List ℕ) (n m at : ℕ) (tables : List ℤ) (next : ℕ) → tablesAt file n m at ≡ got tables next → Tabled file n m at tables next
+unfolding tablesAt
+tabled file n m at tables next h =
+    let t = then-got _ _ _ _ h in
+    let e = closed file (tablesOf n (t .thing)) (t .place) tables next (t .rest) in
+    record { modes = t .thing; are = t .is ∙ ap (got (t .thing)) (e .same); is = e .is; ends = e .ends }
+
+pub length-modes : (file : List ℕ) (n m at : ℕ) (modes : List (List Window)) (next : ℕ) → modesAt file n m at ≡ got modes next → length (tablesOf n modes) ≡ m * (4 * (n * n))
+unfolding modesAt tablesOf
+length-modes file n zero at modes next h = let e : modes ≡ [] = cc in rw e (omega arith)
+length-modes file n (suc m) at modes next h =
+    let w = then-got _ _ _ _ h in
+    let r = then-got _ _ _ _ (w .rest) in
+    let e : modes ≡ w .thing ∷ r .thing = cc (r .rest) in
+    rw e (length-append (laid (4 * (n * n)) (w .thing)) (tablesOf n (r .thing)) ∙ omega (arith, length-laid (4 * (n * n)) (w .thing), length-modes file n m (w .place) (r .thing) (r .place) (r .is), suc-mul m (4 * (n * n))))
+
+pub places-are : (n m : ℕ) → m * (4 * (n * n)) ≡ places n m
+places-are n m = sym (mul-assoc m 4 (n * n)) ∙ ap (λ (k : ℕ). k * (n * n)) (mul-comm m 4)
+
+-- ---- the sheet
+pub record Sheeted (file : List ℕ) (s : Sheet) (next : ℕ) : Type 0 where
+  pub a : ℕ
+  pub b : ℕ
+  pub count : Counted file 0 (counts (s .n) (s .m) (s .positions)) a
+  pub schedule : scheduleAt file (s .m) (s .positions) a ≡ got (s .schedule) b
+  pub tables : Tabled file (s .n) (s .m) b (s .tables) next
+  pub long-schedule : length (s .schedule) ≡ s .positions
+  pub long-tables : length (s .tables) ≡ places (s .n) (s .m)
+
+pub sheeted : (file : List ℕ) (s : Sheet) (next : ℕ) → sheetIn file ≡ got s next → Sheeted file s next
+unfolding sheetIn sheetAfter
+sheeted file s next h =
+    let c = then-got _ _ _ _ h in
+    let v = then-got _ _ _ _ (c .rest) in
+    let t = then-got _ _ _ _ (v .rest) in
+    let e : s ≡ sheet (c .thing .n) (c .thing .m) (c .thing .positions) (t .thing) (v .thing) = cc (t .rest) in
+    let q : t .place ≡ next = cc (t .rest) in
+    let z : tablesAt file (c .thing .n) (c .thing .m) (v .place) ≡ got (t .thing) next = t .is ∙ ap (got (t .thing)) q in
+    let d = tabled file (c .thing .n) (c .thing .m) (v .place) (t .thing) next z in
+    rw e (record {
+      a = c .place;
+      b = v .place;
+      count = counted file 0 (c .thing) (c .place) (c .is);
+      schedule = v .is;
+      tables = d;
+      long-schedule = length-schedule file (c .thing .m) (c .thing .positions) (c .place) (v .thing) (v .place) (v .is);
+      long-tables = ap length (d .is) ∙ length-modes file (c .thing .n) (c .thing .m) (v .place) (d .modes) next (d .are) ∙ places-are (c .thing .n) (c .thing .m);
+    })
+
+-- ---- a walk over the whole file
+pub record Filled (x : Part Sheet) (n m positions : ℕ) : Type 0 where
+  pub s : Sheet
+  pub next : ℕ
+  pub is : x ≡ got s next
+  pub n-is : s .n ≡ n
+  pub m-is : s .m ≡ m
+  pub positions-is : s .positions ≡ positions
+
+pub filled : (x : Part Sheet) (t₀ : List ℤ) (s₀ : List ℕ) (r : Read) (t : List ℤ) (v : List ℕ) (n m positions : ℕ) → r ≡ read.Done n m positions → Fills x t₀ s₀ r t v → Filled x n m positions
+unfolding Fills
+filled (got s next) t₀ s₀ r t v n m positions e h =
+    let q : read.Done (s .n) (s .m) (s .positions) ≡ read.Done n m positions = sym (h .0) ∙ e in
+    record { s = s; next = next; is = refl; n-is = cc; m-is = cc; positions-is = cc }
+filled (refused k) t₀ s₀ r t v n m positions e h = absurd (never (sym h ∙ e))
+  where
+    never : read.Refused k ≡ read.Done n m positions → ⊥
+    never e = let z : _≡_ {A = ℕ} 0 1 = cc in omega arith
+
+pub unfilled : (x : Part Sheet) (t₀ : List ℤ) (s₀ : List ℕ) (r : Read) (t : List ℤ) (v : List ℕ) (k : ℕ) → r ≡ read.Refused k → Fills x t₀ s₀ r t v → x ≡ refused k
+unfolding Fills
+unfilled (got s next) t₀ s₀ r t v k e h = absurd (never (sym (h .0) ∙ e))
+  where
+    never : read.Done (s .n) (s .m) (s .positions) ≡ read.Refused k → ⊥
+    never e = let z : _≡_ {A = ℕ} 0 1 = cc in omega arith
+unfilled (refused j) t₀ s₀ r t v k e h = let q : read.Refused j ≡ read.Refused k = sym h ∙ e in let z : j ≡ k = cc in ap refused z
+
+pub fills-refused : (x : Part Sheet) (t₀ : List ℤ) (s₀ : List ℕ) (t : List ℤ) (v : List ℕ) (k : ℕ) → x ≡ refused k → Fills x t₀ s₀ (read.Refused k) t v
+unfolding Fills
+fills-refused x t₀ s₀ t v k e = rw e
+
+pub fills-done : (x : Part Sheet) (t₀ : List ℤ) (s₀ : List ℕ) (t : List ℤ) (v : List ℕ) (s : Sheet) (next : ℕ) → x ≡ got s next
+    → t ≡ sets t₀ 0 (s .tables) → v ≡ sets s₀ 0 (s .schedule) → Fills x t₀ s₀ (read.Done (s .n) (s .m) (s .positions)) t v
+unfolding Fills
+fills-done x t₀ s₀ t v s next e p q = rw e (refl, p, q)
+
+-- ---- the outcome
+-- a list that is long enough, with another written over its front
+front : {A : Type 0} (l vs : List A) (k : ℕ) → length vs ≡ k → k ≤ length l → sets l 0 vs ≡ vs ++ drop k l
+front l vs k e h = sets-eq vs l 0 (omega arith) ∙ ap (λ (j : ℕ). vs ++ drop j l) (sum (length vs) k e)
+  where
+    sum : (a k : ℕ) → a ≡ k → 0 + a ≡ k
+    sum a k e = omega arith
+
+module _ (file : List ℕ) (t₀ : List ℤ) (s₀ : List ℕ) where
+  pub reads-refused : (r : Read) (k : ℕ) → r ≡ read.Refused k → sheetIn file ≡ refused k → Reads file t₀ s₀ r t₀ s₀
+  reads-refused r k e h = rw (e, h)
+
+  module _ (s : Sheet) (next : ℕ) (h : sheetIn file ≡ got s next) where
+    pub reads-short-tables : length t₀ < places (s .n) (s .m) → Reads file t₀ s₀ (read.Refused 9) t₀ s₀
+    reads-short-tables l = rw (h, lt-leb _ _ l)
+
+    pub reads-short-schedule : places (s .n) (s .m) ≤ length t₀ → length s₀ < s .positions → Reads file t₀ s₀ (read.Refused 9) t₀ s₀
+    reads-short-schedule g l = rw (h, le-leb _ _ g, lt-leb _ _ l)
+
+    pub reads-done : (r : Read) (t : List ℤ) (v : List ℕ) → places (s .n) (s .m) ≤ length t₀ → s .positions ≤ length s₀ → Fills (sheetIn file) t₀ s₀ r t v → Reads file t₀ s₀ r t v
+    unfolding Fills
+    reads-done r t v g l f =
+        let d = sheeted file s next h in
+        let q = rw h at f in
+        rw (h, le-leb _ _ g, le-leb _ _ l, q .0, q .1, q .2, front t₀ (s .tables) (places (s .n) (s .m)) (d .long-tables) g, front s₀ (s .schedule) (s .positions) (d .long-schedule) l)
