@@ -5,6 +5,7 @@ use mathlib.Core.List.{List, [], _∷_}
 use Prim.Native.Nat.{ℕ, zero, suc, _+_, _-_, _*_, _/_, _%_, _≤_, _<_}
 use native.Mathlib.Omega.{arith}
 use native.Mathlib.Numerals.{add-one}
+use native.Mathlib.Decide.{decLt}
 use borrow.Author.Tests.{lt-ltb, le-ltb}
 use lib.Dec.{ltb}
 use lib.ListN.{length, set, length-set}
@@ -72,3 +73,16 @@ module _ (v : ℕ) where
         grouped-more 3 (v / 128) (λ e. omega arith) (omega arith),
         grouped-more 2 (v / 128 / 128) (λ e. omega arith) (omega arith),
       ) (ap (λ (n : ℕ). suc (suc (suc n))) (single (v / 128 / 128 / 128)))
+
+-- one to four groups
+pub few-groups : (v : ℕ) → (1 ≤ length (groups v)) × (length (groups v) ≤ 4)
+few-groups v = elim (decLt v 128) [
+  | yes a ↦ let e = size-one v a in (omega arith, omega arith)
+  | no a ↦ elim (decLt v 16384) [
+    | yes b ↦ let e = size-two v (omega arith) b in (omega arith, omega arith)
+    | no b ↦ elim (decLt v 2097152) [
+      | yes c ↦ let e = size-three v (omega arith) c in (omega arith, omega arith)
+      | no c ↦ let e = size-four v (omega arith) in (omega arith, omega arith)
+    ]
+  ]
+]

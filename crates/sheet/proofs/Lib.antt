@@ -6,3 +6,6 @@ pub mod Sets
 pub mod Modes
 pub mod Schedules
 pub mod Sheets
+pub mod Runs
+pub mod Rows
+pub mod Outcomes

@@ -193,7 +193,7 @@ fills-done x t₀ s₀ t v s next e p q = rw e (refl, p, q)
 
 -- ---- the outcome
 -- a list that is long enough, with another written over its front
-front : {A : Type 0} (l vs : List A) (k : ℕ) → length vs ≡ k → k ≤ length l → sets l 0 vs ≡ vs ++ drop k l
+pub front : {A : Type 0} (l vs : List A) (k : ℕ) → length vs ≡ k → k ≤ length l → sets l 0 vs ≡ vs ++ drop k l
 front l vs k e h = sets-eq vs l 0 (omega arith) ∙ ap (λ (j : ℕ). vs ++ drop j l) (sum (length vs) k e)
   where
     sum : (a k : ℕ) → a ≡ k → 0 + a ≡ k

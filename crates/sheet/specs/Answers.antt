@@ -3,14 +3,17 @@ use Prim.Native.Nat.{ℕ}
 use mathlib.Core.Path.{_≡_}
 use mathlib.Core.Bool.{Bool, true, false, _&&_}
 use mathlib.Core.List.{List, [], _∷_, _++_}
-use lib.Dec.{leb}
+use lib.Dec.{leb, eqb}
 use lib.ListN.{length, drop}
 use lib.IntN.{ℤ}
 use Rattle.numbers.specs.Groups.{pick}
-use Rattle.tables.specs.Sheets.{Sheet, places}
+use Rattle.tables.specs.Sheets.{Sheet, places, refusal}
 use Rattle.sheet.specs.File.{Part, got, refused, sheetIn}
+use Rattle.sheet.specs.Written.{written}
 use Rattle.sheet.specs.declared.Read.{Read}
 use Rattle.sheet.specs.declared.Read.the-variants as read
+use Rattle.sheet.specs.declared.Written.{Written}
+use Rattle.sheet.specs.declared.Written.the-variants as wrote
 
 -- "Numbers a call can answer": a number, and what is returned with it
 pub record Answer : Type 0 where
@@ -49,3 +52,34 @@ readOf (refused k) tables schedule = unread k tables schedule
 -- the outcome of reading: the answer and both buffers, by the bytes and the buffers before
 abbrev pub Reads : List ℕ → List ℤ → List ℕ → Read → List ℤ → List ℕ → Type 0
 Reads file tables₀ schedule₀ answer tables schedule = reading (answerRead answer) tables schedule ≡ readOf (sheetIn file) tables₀ schedule₀
+
+-- 0, "done", with "the sheet's length"
+abbrev pub answerWritten : Written → Answer
+answerWritten (wrote.Done length) = record { number = 0; values = length ∷ [] }
+answerWritten (wrote.Refused k) = record { number = k; values = [] }
+
+-- what the writer leaves
+pub record Writing : Type 0 where
+  pub answer : Answer
+  pub out : List ℕ
+
+abbrev pub writing : Answer → List ℕ → Writing
+writing a out = record { answer = a; out = out }
+
+abbrev pub unwritten : ℕ → List ℕ → Writing
+unwritten k out = writing (record { number = k; values = [] }) out
+
+-- "9 means exactly that the buffer is shorter than the sheet; it returns the sheet's length"
+abbrev pub writeInto : List ℕ → List ℕ → Writing
+writeInto bytes out =
+    pick (leb (length bytes) (length out))
+    (writing (record { number = 0; values = length bytes ∷ [] }) (bytes ++ drop (length bytes) out))
+    (unwritten 9 out)
+
+-- "The writer: 4, 5, 6, 9"
+abbrev pub writeOf : Sheet → List ℕ → Writing
+writeOf s out = pick (eqb (refusal s) 0) (writeInto (written s) out) (unwritten (refusal s) out)
+
+-- the outcome of writing: the answer and the buffer, by the sheet and the buffer before
+abbrev pub Writes : Sheet → List ℕ → Written → List ℕ → Type 0
+Writes s out₀ answer out = writing (answerWritten answer) out ≡ writeOf s out₀

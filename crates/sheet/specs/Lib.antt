@@ -1,3 +1,4 @@
 pub mod File
+pub mod Written
 pub mod Answers
 pub mod Steps

@@ -5,12 +5,14 @@ use mathlib.Core.Bool.{Bool, true, false, _&&_}
 use mathlib.Core.List.{List, [], _∷_}
 use lib.Dec.{leb}
 use lib.IntN.{ℤ}
+use lib.ListN.{length}
 use lib.Seq.{sets}
 use Rattle.numbers.specs.Signs.{decoded}
 use Rattle.numbers.specs.declared.Number.{Number}
 use Rattle.numbers.specs.declared.Number.the-variants as number
 use Rattle.tables.specs.Sheets.{Sheet}
 use Rattle.sheet.specs.File.{Part, got, refused, Window, window, Counts, counts}
+use Rattle.sheet.specs.Written.{inGroups}
 use Rattle.sheet.specs.declared.Read.{Read}
 use Rattle.sheet.specs.declared.Read.the-variants as read
 use Rattle.sheet.specs.declared.Found.{Found}
@@ -48,3 +50,15 @@ unfoldable pub Fills : Part Sheet → List ℤ → List ℕ → Read → List �
 Fills (got s next) tables₀ schedule₀ r tables schedule =
     (r ≡ read.Done (s .n) (s .m) (s .positions)) × (tables ≡ sets tables₀ 0 (s .tables)) × (schedule ≡ sets schedule₀ 0 (s .schedule))
 Fills (refused k) tables₀ schedule₀ r tables schedule = r ≡ read.Refused k
+
+-- the place after what was written, and the list
+pub record State : Type 0 where
+  pub next : ℕ
+  pub out : List ℕ
+
+abbrev pub state : ℕ → List ℕ → State
+state next out = record { next = next; out = out }
+
+-- numbers written from a place on, as far as there is room
+unfoldable pub run : List ℕ → ℕ → List ℕ → State
+run out at numbers = state (at + length (inGroups numbers)) (sets out at (inGroups numbers))

@@ -3,15 +3,17 @@
 // It renders document 01's "The sheet file".
 use numbers::Number;
 ghost use mathlib.Core.Path.{_≡_};
-ghost use Prim.Native.Nat.{_+_, _*_, _≤_, _<_};
-ghost use lib.ListN.{length, set, replicate};
+ghost use Prim.Native.Nat.{_+_, _*_, _/_, _%_, _≤_, _<_};
+ghost use mathlib.Core.List.{[], _∷_};
+ghost use lib.ListN.{length, set, replicate, take, drop};
 ghost use lib.Seq.{sets};
 ghost use Rattle.numbers.specs.Groups.{numberAt};
 ghost use Rattle.numbers.specs.Signs.{decoded};
-ghost use Rattle.tables.specs.Sheets.{noWindow};
+ghost use Rattle.tables.specs.Sheets.{noWindow, sheet, refusal};
 ghost use Rattle.sheet.specs.File.{tested, windowAt, windowsAt, modeAt, modesAt, scheduleAt, counts, countsAt, tablesAt, sheetAfter, sheetIn, put, laid, tablesOf};
-ghost use Rattle.sheet.specs.Answers.{Reads};
-ghost use Rattle.sheet.specs.Steps.{between, refusedNumber, foundPart, headPart, Walks, Fills};
+ghost use Rattle.sheet.specs.Answers.{Reads, Writes};
+ghost use Rattle.sheet.specs.Written.{cell, windowsOf, records, modeNumbers, modesNumbers, sheetNumbers, written};
+ghost use Rattle.sheet.specs.Steps.{between, refusedNumber, foundPart, headPart, Walks, Fills, state, run};
 ghost use lib.Dec.{leb};
 
 // What reading a sheet answers: n, m and V, or the number of the refusal (1 to 9).
@@ -24,6 +26,12 @@ pub enum Read {
     Refused {
         number: u8,
     },
+}
+
+// What writing a sheet answers: its length, or the number of the refusal (4, 5, 6 or 9).
+pub enum Written {
+    Done { length: usize },
+    Refused { number: u8 },
 }
 
 // A record of a mode: its place in the mode's part and its limit as the file has it.
@@ -376,4 +384,162 @@ pub fn read_sheet(file: &[u8], tables: &mut [i32], schedule: &mut [u8]) -> Read
         return Read::Refused { number: 9 };
     }
     read_into(file, tables, schedule)
+}
+
+// Writes a number from a place on, as far as there is room, and gives the place after it.
+fn write_number(out: &mut [u8], at: usize, value: usize) -> usize
+    requires { ⌜ at ≤ 1000000 ⌝ }
+    ensures { λ r. ⌜ state r (now (out .exit)) ≡ run (now (out .entry)) at (value ∷ []) ⌝ }
+{
+    at + numbers::put(out, at, value)
+}
+
+// Writes the record of a window.
+fn write_window(out: &mut [u8], at: usize, n: usize, place: usize, code: usize) -> usize
+    requires { ⌜ (1 ≤ n) × (n ≤ 12) × (at ≤ 900000) ⌝ }
+    ensures { λ r. ⌜ state r (now (out .exit)) ≡ run (now (out .entry)) at ((place / (n * n)) ∷ (place / n % n + 1) ∷ (place % n + 1) ∷ code ∷ []) ⌝ }
+{
+    let a = write_number(out, at, place / (n * n));
+    let b = write_number(out, a, place / n % n + 1);
+    let c = write_number(out, b, place % n + 1);
+    write_number(out, c, code)
+}
+
+// Writes the record of a table's value, if it says a window.
+fn write_cell(out: &mut [u8], at: usize, n: usize, place: usize, value: i32) -> usize
+    requires { ⌜ (1 ≤ n) × (n ≤ 12) × (at ≤ 900000) ⌝ }
+    ensures { λ r. ⌜ state r (now (out .exit)) ≡ run (now (out .entry)) at (records n (cell place value)) ⌝ }
+{
+    if tables::is_absent(value) {
+        return at;
+    }
+    write_window(out, at, n, place, wide(numbers::encode(value)))
+}
+
+fn wide(code: u32) -> usize
+    ensures { λ r. ⌜ r ≡ code ⌝ }
+{
+    code as usize
+}
+
+// How many of a part's first places say a window.
+fn count_windows(part: &[i32], size: usize) -> usize
+    requires { ⌜ size ≤ length (now part) ⌝ }
+    ensures { λ r. ⌜ r ≡ length (windowsOf 0 (take size (now (part .entry)))) ⌝ }
+{
+    let mut count: usize = 0;
+    let mut k: usize = 0;
+    while k < size {
+        if !tables::is_absent(part[k]) {
+            count += 1;
+        }
+        k += 1;
+    }
+    count
+}
+
+// Writes the records of one mode from a place on.
+fn write_windows(out: &mut [u8], at: usize, n: usize, size: usize, part: &[i32]) -> usize
+    requires { ⌜ (1 ≤ n) × (n ≤ 12) × (size ≤ 576) × (size ≤ length (now part)) × (at ≤ 200000) ⌝ }
+    ensures { λ r. ⌜ state r (now (out .exit)) ≡ run (now (out .entry)) at (records n (windowsOf 0 (take size (now (part .entry))))) ⌝ }
+{
+    let mut p = at;
+    let mut k: usize = 0;
+    while k < size {
+        p = write_cell(out, p, n, k, part[k]);
+        k += 1;
+    }
+    p
+}
+
+// Writes one mode, whose windows are a part of the tables.
+fn write_mode(out: &mut [u8], at: usize, n: usize, part: &[i32]) -> usize
+    requires { ⌜ (1 ≤ n) × (n ≤ 12) × (4 * (n * n) ≤ length (now part)) × (at ≤ 100000) ⌝ }
+    ensures { λ r. ⌜ state r (now (out .exit)) ≡ run (now (out .entry)) at (modeNumbers n (take (4 * (n * n)) (now (part .entry)))) ⌝ }
+{
+    let size = 4 * (n * n);
+    let a = write_number(out, at, count_windows(part, size));
+    write_windows(out, a, n, size, part)
+}
+
+// Writes every mode, each from the part of the tables that starts at 4t·n².
+fn write_modes(out: &mut [u8], at: usize, n: usize, m: usize, tables: &[i32]) -> usize
+    requires { ⌜ (1 ≤ n) × (n ≤ 12) × (m ≤ 8) × (m * (4 * (n * n)) ≤ length (now tables)) × (at ≤ 1000) ⌝ }
+    ensures { λ r. ⌜ state r (now (out .exit)) ≡ run (now (out .entry)) at (modesNumbers n m (now (tables .entry))) ⌝ }
+{
+    let size = 4 * (n * n);
+    let mut p = at;
+    let mut t: usize = 0;
+    while t < m {
+        let start = t * size;
+        p = write_mode(out, p, n, &tables[start..]);
+        t += 1;
+    }
+    p
+}
+
+// Writes the mode numbers of the first positions of a schedule.
+fn write_schedule(out: &mut [u8], at: usize, positions: usize, schedule: &[u8]) -> usize
+    requires { ⌜ (positions ≤ 16) × (positions ≤ length (now schedule)) × (at ≤ 100) ⌝ }
+    ensures { λ r. ⌜ state r (now (out .exit)) ≡ run (now (out .entry)) at (take positions (now (schedule .entry))) ⌝ }
+{
+    let mut p = at;
+    let mut h: usize = 0;
+    while h < positions {
+        p = write_number(out, p, mode_of(schedule[h]));
+        h += 1;
+    }
+    p
+}
+
+fn mode_of(byte: u8) -> usize
+    ensures { λ r. ⌜ r ≡ byte ⌝ }
+{
+    byte as usize
+}
+
+// Writes n, m, V and all that follows them, as far as there is room, and gives the sheet's length.
+fn write_all(
+    n: usize,
+    m: usize,
+    positions: usize,
+    tables: &[i32],
+    schedule: &[u8],
+    out: &mut [u8],
+) -> usize
+    requires { ⌜ refusal (sheet n m positions (now tables) (now schedule)) ≡ 0 ⌝ }
+    ensures { λ r. ⌜ state r (now (out .exit)) ≡ run (now (out .entry)) 0 (sheetNumbers (sheet n m positions (now (tables .entry)) (now (schedule .entry)))) ⌝ }
+{
+    let a = write_number(out, 0, FORMAT);
+    let b = write_number(out, a, n);
+    let c = write_number(out, b, m);
+    let d = write_number(out, c, positions);
+    let e = write_schedule(out, d, positions, schedule);
+    write_modes(out, e, n, m, tables)
+}
+
+// Writes a sheet in memory as its one file. The first walk has no room to write and gives the
+// length, so that a refusal alters nothing.
+pub fn write_sheet(
+    n: usize,
+    m: usize,
+    positions: usize,
+    tables: &[i32],
+    schedule: &[u8],
+    out: &mut [u8],
+) -> Written
+    ensures { λ r. ⌜ Writes (sheet n m positions (now (tables .entry)) (now (schedule .entry))) (now (out .entry)) r (now (out .exit)) ⌝ }
+{
+    let judged = tables::judge(n, m, positions, tables, schedule);
+    if judged != 0 {
+        return Written::Refused { number: judged };
+    }
+    let mut no_room = [0u8; 1];
+    let length = write_all(n, m, positions, tables, schedule, &mut no_room);
+    if out.len() < length {
+        return Written::Refused { number: 9 };
+    }
+    Written::Done {
+        length: write_all(n, m, positions, tables, schedule, out),
+    }
 }
