@@ -9,3 +9,5 @@ pub mod Sheets
 pub mod Runs
 pub mod Rows
 pub mod Outcomes
+pub mod Parts
+pub mod Back
