@@ -11,3 +11,5 @@ pub mod Rows
 pub mod Outcomes
 pub mod Parts
 pub mod Back
+pub mod Admitted
+pub mod There

@@ -149,7 +149,7 @@ pub record Admitted (s : Sheet) : Type 0 where
   pub modes : (h : ℕ) → h < s .positions → getD (s .schedule) h 0 < s .m
   pub values : (k : ℕ) → k < places (s .n) (s .m) → admits (getD (s .tables) k (pos 0)) ≡ true
 
-passes : (a b c : Bool) → unless a 4 (unless b 5 (unless c 6 0)) ≡ 0 → (a ≡ true) × (b ≡ true) × (c ≡ true)
+pub passes : (a b c : Bool) → unless a 4 (unless b 5 (unless c 6 0)) ≡ 0 → (a ≡ true) × (b ≡ true) × (c ≡ true)
 passes true true true e = (refl, refl, refl)
 passes true true false e = absurd (omega arith)
 passes true false c e = absurd (omega arith)
