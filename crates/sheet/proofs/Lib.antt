@@ -13,3 +13,4 @@ pub mod Parts
 pub mod Back
 pub mod Admitted
 pub mod There
+pub mod Longest

@@ -60,7 +60,7 @@ module _ (file : List ℕ) where
       }
 
   -- ---- a record
-  limit-code : (v : ℤ) → inLimit v ≡ true → encoded v ≤ 2000000
+  pub limit-code : (v : ℤ) → inLimit v ≡ true → encoded v ≤ 2000000
   limit-code (pos a) e = omega (arith, leb-true a 1000000 e)
   limit-code (negsuc a) e = omega (arith, ltb-true a 1000000 e)
 
@@ -114,20 +114,20 @@ unfoldable pub modeList : ℕ → ℕ → List ℤ → List (List Window)
 modeList n zero tables = []
 modeList n (suc m) tables = windowsOf 0 (take (4 * (n * n)) tables) ∷ modeList n m (drop (4 * (n * n)) tables)
 
-all-both : {A : Type 0} (f : A → Bool) (a b : List A) → all f (a ++ b) ≡ true → (all f a ≡ true) × (all f b ≡ true)
+pub all-both : {A : Type 0} (f : A → Bool) (a b : List A) → all f (a ++ b) ≡ true → (all f a ≡ true) × (all f b ≡ true)
 unfolding all
 all-both f [] b e = (refl, e)
 all-both f (x ∷ a) b e = let h = both (f x) (all f (a ++ b)) e in let q = all-both f a b (h .1) in (yes (f x) (all f a) (h .0) (q .0), q .1)
 
 -- the first mode's part, and the others'
 module _ (tables : List ℤ) (n m : ℕ) (h : suc m * (4 * (n * n)) ≤ length tables) where
-  first-long : length (take (4 * (n * n)) tables) ≡ 4 * (n * n)
+  pub first-long : length (take (4 * (n * n)) tables) ≡ 4 * (n * n)
   first-long = length-take-le (4 * (n * n)) tables (omega (arith, suc-mul m (4 * (n * n))))
 
-  others-long : m * (4 * (n * n)) ≤ length (drop (4 * (n * n)) tables)
+  pub others-long : m * (4 * (n * n)) ≤ length (drop (4 * (n * n)) tables)
   others-long = omega (arith, suc-mul m (4 * (n * n)), length-drop (4 * (n * n)) tables)
 
-  parted : take (suc m * (4 * (n * n))) tables ≡ take (4 * (n * n)) tables ++ take (m * (4 * (n * n))) (drop (4 * (n * n)) tables)
+  pub parted : take (suc m * (4 * (n * n))) tables ≡ take (4 * (n * n)) tables ++ take (m * (4 * (n * n))) (drop (4 * (n * n)) tables)
   parted = ap (λ (k : ℕ). take k tables) (turn (suc-mul m (4 * (n * n)))) ∙ take-add (4 * (n * n)) (m * (4 * (n * n))) tables
     where
       turn : {x : ℕ} → x ≡ m * (4 * (n * n)) + 4 * (n * n) → x ≡ 4 * (n * n) + m * (4 * (n * n))
