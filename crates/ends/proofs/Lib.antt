@@ -1,2 +1,6 @@
 pub mod Unique
 pub mod Found
+pub mod Places
+pub mod Weighing
+pub mod Held
+pub mod Copies

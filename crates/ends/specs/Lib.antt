@@ -1,1 +1,4 @@
 pub mod Ends
+pub mod Weights
+pub mod Limits
+pub mod Climbs

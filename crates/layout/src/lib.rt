@@ -11,17 +11,21 @@ ghost use Rattle.layout.specs.Records.{entry, lists, state, added, Room,
 ghost use Rattle.layout.specs.Edges.{edgeOf};
 
 // How much a limit lies above 0, or 0.
-fn upper(value: i32) -> u64
+pub fn upper(value: i32) -> u64
     ensures { λ r. ⌜ (r ≡ up value) × (r < 2147483648) ⌝ }
 {
     if value < 0 { 0 } else { (value as u32) as u64 }
 }
 
 // How much a limit lies below 0, or 0.
-fn lower(value: i32) -> u64
+pub fn lower(value: i32) -> u64
     ensures { λ r. ⌜ (r ≡ down value) × (r < 2147483649) ⌝ }
 {
-    if value < 0 { ((!value) as u32) as u64 + 1 } else { 0 }
+    if value < 0 {
+        ((!value) as u32) as u64 + 1
+    } else {
+        0
+    }
 }
 
 // Puts the window at the place k of a mode's part, if the value is one, as the record w, and gives the place after it.
@@ -115,7 +119,16 @@ pub struct Edge {
 
 // The arc of a record. The events of its position stand from `here` on, those of the next position from `next` on, and to cross from
 // the one to the other costs `cross`.
-pub fn edge_of(kind: u8, to: u8, from: u8, up: u64, down: u64, here: usize, next: usize, cross: u64) -> Edge
+pub fn edge_of(
+    kind: u8,
+    to: u8,
+    from: u8,
+    up: u64,
+    down: u64,
+    here: usize,
+    next: usize,
+    cross: u64,
+) -> Edge
     requires { ⌜ (1 ≤ to) × (1 ≤ from) × (here < 4096) × (next < 4096) × (up < 4294967296000) × (down < 4294967296000) × (cross < 4294967296000) ⌝ }
     ensures { λ r. ⌜ r ≡ edgeOf (entry kind to from up down) here next cross ⌝ }
 {

@@ -71,12 +71,12 @@ module _ (old : List ℕ) (row : ℕ) (a : Named) (b : Board) where
   -- at v the boards are as they were, or the arc explains the time
   raise-cause : (v : ℕ) → v < length (b .times) → row + v < length (b .marks)
       → ((getD (raise old row a b .times) v 0 ≡ getD (b .times) v 0) × (getD (raise old row a b .marks) (row + v) 0 ≡ getD (b .marks) (row + v) 0))
-          ⊎ ((getD (raise old row a b .marks) (row + v) 0 ≡ a .mark) × (a .edge .arrival ≡ v) × (getD (raise old row a b .times) v 0 + a .edge .fall ≡ getD old (a .edge .departure) 0 + a .edge .rise))
+      ⊎ ((getD (raise old row a b .marks) (row + v) 0 ≡ a .mark) × (a .edge .arrival ≡ v) × (getD (raise old row a b .times) v 0 + a .edge .fall ≡ getD old (a .edge .departure) 0 + a .edge .rise))
   unfolding up c
   raise-cause v h k =
       raise-cases
       (λ x. ((getD (x .times) v 0 ≡ getD (b .times) v 0) × (getD (x .marks) (row + v) 0 ≡ getD (b .marks) (row + v) 0))
-        ⊎ ((getD (x .marks) (row + v) 0 ≡ a .mark) × (a .edge .arrival ≡ v) × (getD (x .times) v 0 + a .edge .fall ≡ getD old (a .edge .departure) 0 + a .edge .rise)))
+      ⊎ ((getD (x .marks) (row + v) 0 ≡ a .mark) × (a .edge .arrival ≡ v) × (getD (x .times) v 0 + a .edge .fall ≡ getD old (a .edge .departure) 0 + a .edge .rise)))
       (λ l. elim (ℕ-discrete (a .edge .arrival) v) [
         | yes e ↦ inr (
           ap (λ (x : ℕ). getD (set (b .marks) (row + a .edge .arrival) (a .mark)) (row + x) 0) (sym e) ∙ getD-set-same (b .marks) (row + a .edge .arrival) (a .mark) 0 (omega arith),

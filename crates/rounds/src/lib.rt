@@ -103,7 +103,17 @@ fn pass(
     let mut k = a;
     while k < e {
         step(
-            kind[k], to[k], from[k], up[k], down[k], at, k, old, new, marks, row,
+            kind[k],
+            to[k],
+            from[k],
+            up[k],
+            down[k],
+            at,
+            k,
+            old,
+            new,
+            marks,
+            row,
         );
         k += 1;
     }
@@ -137,7 +147,20 @@ fn round(
         let e = start[t + 1];
         let at = stand_at(g, n, positions, p);
         pass(
-            kind, to, from, up, down, a, e, n, nodes, at, old, new, marks, row,
+            kind,
+            to,
+            from,
+            up,
+            down,
+            a,
+            e,
+            n,
+            nodes,
+            at,
+            old,
+            new,
+            marks,
+            row,
         );
         g += 1;
     }
@@ -190,7 +213,20 @@ pub fn run(
     while r < nodes {
         let old = cur;
         round(
-            kind, to, from, up, down, start, schedule, n, positions, p, &old, &mut cur, marks, r * 192,
+            kind,
+            to,
+            from,
+            up,
+            down,
+            start,
+            schedule,
+            n,
+            positions,
+            p,
+            &old,
+            &mut cur,
+            marks,
+            r * 192,
         );
         node = differs(&old, &cur, nodes);
         if node == nodes {

@@ -25,7 +25,7 @@ numbers-length [] = refl
 numbers-length (c ∷ cs) = omega (arith, numbers-length cs)
 
 -- four places further on
-getD-four : (a b c d : ℕ) (l : List ℕ) (k j : ℕ) → getD (a ∷ b ∷ c ∷ d ∷ l) (4 * suc k + j) 0 ≡ getD l (4 * k + j) 0
+pub getD-four : (a b c d : ℕ) (l : List ℕ) (k j : ℕ) → getD (a ∷ b ∷ c ∷ d ∷ l) (4 * suc k + j) 0 ≡ getD l (4 * k + j) 0
 getD-four a b c d l k j = ap (λ (i : ℕ). getD (a ∷ b ∷ c ∷ d ∷ l) i 0) further
   where
     further : 4 * suc k + j ≡ suc (suc (suc (suc (4 * k + j))))

@@ -66,7 +66,7 @@ part-lay-mode-end : tie.Need-part-lay-mode-end Inv-loop μ-loop
 part-lay-mode-end c = let f = fit c in omega (arith, f .part, f .whole, P (c .before) .pre .4)
 
 lay-mode-requires : tie.Need-lay-mode-requires Inv-loop μ-loop
-lay-mode-requires c κs = 
+lay-mode-requires c κs =
     let i = c .before .before .before .before .before .before in
     let l = i .before in
     let s = P l in
@@ -86,7 +86,7 @@ mul-start : tie.Need-mul-start Inv-loop μ-loop
 mul-start c = search needs
 
 slice-write-start-2 : tie.Need-slice-write-start-2 Inv-loop μ-loop
-slice-write-start-2 c = 
+slice-write-start-2 c =
     let i = c .before .before .before .before .before .before .before .before .before .before .before .before .before .before .before .before .before in
     omega (arith, wide (i .before), P (i .before) .pre .5, i .loop-test .taken)
 
@@ -98,7 +98,7 @@ loop-less c = search needs
 
 loop-again : tie.Need-loop-again Inv-loop μ-loop
 unfolding modeWindows
-loop-again c = 
+loop-again c =
     let b = c .before .before .before .before .before .before .before .before .before .before in
     let i = b .before .before .before .before .before .before .before in
     let l = i .before in

@@ -70,11 +70,11 @@ stand-at-requires c κs = let l = c .before .before .before .before in let s = P
 
 pass-requires : tie.Need-pass-requires Inv-loop μ-loop
 pass-requires c κs = let t = c .before .before in let i = t .before .before .before .before in let l = i .before in let s = P l in let a = s .args in (
-      s .pre .1 .rising (l .loop .g) (i .loop-test .taken),
-      s .pre .1 .fine (l .loop .g) (i .loop-test .taken),
-      stood t,
-      boards-same (a .old .now) (a .new .now) (a .marks .now) (l .loop .new) (l .loop .marks) (a .row) (a .positions * a .n) (s .pre .2) (l .loop .inv .1) (l .loop .inv .2),
-    )
+  s .pre .1 .rising (l .loop .g) (i .loop-test .taken),
+  s .pre .1 .fine (l .loop .g) (i .loop-test .taken),
+  stood t,
+  boards-same (a .old .now) (a .new .now) (a .marks .now) (l .loop .new) (l .loop .marks) (a .row) (a .positions * a .n) (s .pre .2) (l .loop .inv .1) (l .loop .inv .2),
+)
 
 add-g : tie.Need-add-g Inv-loop μ-loop
 add-g c = search needs
