@@ -4,3 +4,4 @@ pub mod Places
 pub mod Weighing
 pub mod Held
 pub mod Copies
+pub mod Climbing

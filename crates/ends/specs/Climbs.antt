@@ -2,10 +2,11 @@
 use mathlib.Core.Path.{_≡_}
 use mathlib.Core.Logic.{_⊎_}
 use mathlib.Core.List.{List, [], _∷_, _++_, map}
-use Prim.Native.Nat.{ℕ, _≤_}
+use Prim.Native.Nat.{ℕ, _≤_, _<_}
 use lib.ListN.{length}
 use Rattle.theory.specs.Arcs.{Arc, Works}
-use Rattle.theory.specs.Ends.{NoneShown}
+use Rattle.theory.specs.Circuits.{Above}
+use Rattle.theory.specs.Ends.{AtMost, NoneShown}
 use Rattle.theory.proofs.Found.{Low, Top}
 use Rattle.tables.specs.Sheets.{Sheet}
 use Rattle.windows.specs.Arcs.{nodes, arcs}
@@ -22,6 +23,23 @@ module _ (s : Sheet) where
 
   abbrev pub heldArcs : {buffer : List ℕ} {count : ℕ} → Held buffer count → List Arc
   heldArcs held = map (stepArc s) (held .steps)
+
+  -- the buffer begins with the arcs of a circuit whose total at p/q is above zero
+  pub record Beats (p q : ℕ) (buffer : List ℕ) (count : ℕ) : Type 0 where
+    pub steps : List Step
+    pub circuit : CircuitOf s steps
+    pub counted : length steps ≡ count
+    pub rest : List ℕ
+    pub starts : buffer ≡ numbers steps ++ rest
+    pub above : Above p q (map (stepArc s) steps)
+
+  -- something works at p/q or below it
+  pub record Over (p q : ℕ) : Type 0 where
+    pub top : ℕ
+    pub bottom : ℕ
+    pub positive : 0 < bottom
+    pub works : Works (arcs s) top bottom
+    pub below : AtMost top bottom p q
 
   -- low is top/bottom, and the circuit in the buffer shows it
   pub record LowHeld (buffer : List ℕ) (top bottom count : ℕ) : Type 0 where

@@ -139,20 +139,26 @@ module _ (N B K : ℕ) (arcs : List Arc) (laid : Laid N B K arcs) where
       let gains = falling-gains arcs a b d ring above falls in
       (record { positive = pos; lowest = low; small = t .0; few = t .1; least = s .bound; shown = above-zero (limit-positive a′ b′ d pos falls gains e) ring falls (s .zero-there) }, s .rises)
 
-  -- one with c at least 0: nothing works, and it shows so alone or with the circuit of the climb before it
+  -- one with c at least 0 and W not above 0: nothing works, as it shows with the circuit of the climb before it
+  pub climb-both : (a b : ℕ) (c : List Arc) → Low N B K arcs a b c → (d : List Arc) → Circuit arcs d → Above a b d → Level d → ups d ≤ downs d → NoneShown arcs c d
+  climb-both a b c l d ring above level less = two a c (l .shown) above
+    where
+      two : (a : ℕ) (c : List Arc) → LowShown arcs b a c → Above a b d → NoneShown arcs c d
+      two a c at-zero above = absurd (omega (arith, gains-at-zero b d above))
+      two a c (above-zero pos ring′ falls zero-there) above =
+          let climbs : Climbing d = elim (decLt (backs d) (forths d)) [
+            | yes h ↦ h
+            | no h ↦ absurd (omega (arith, gains-level a b d (omega arith) above))
+          ] in
+          double ring′ falls ring climbs (low-high-clash a b c d falls zero-there climbs above)
+
+  -- with W above 0 it shows so alone
   pub climb-stops : (a b : ℕ) (c : List Arc) → Low N B K arcs a b c → (d : List Arc) → Circuit arcs d → Above a b d → Level d → NoneShown arcs d [] ⊎ NoneShown arcs c d
   climb-stops a b c l d ring above level =
       elim (decLt (downs d) (ups d)) [
         | yes gains ↦ inl (single ring gains level)
-        | no none ↦ inr (two a c (l .shown) (elim (decLt (backs d) (forths d)) [
-          | yes h ↦ h
-          | no h ↦ absurd (none (gains-level a b d (omega arith) above))
-        ]) none above)
+        | no none ↦ inr (climb-both a b c l d ring above level (omega arith))
       ]
-    where
-      two : (a : ℕ) (c : List Arc) → LowShown arcs b a c → Climbing d → (Gaining d → ⊥) → Above a b d → NoneShown arcs c d
-      two a c at-zero climbs none above = absurd (none (gains-at-zero b d above))
-      two a c (above-zero pos ring′ falls zero-there) climbs none above = double ring′ falls ring climbs (low-high-clash a b c d falls zero-there climbs above)
 
   -- the climb's measure
   pub climb-less : (a b : ℕ) (c : List Arc) (a′ b′ : ℕ) (c′ : List Arc) → Low N B K arcs a b c → Low N B K arcs a′ b′ c′ → Under a b a′ b′ → left-to-climb (N * B) K a′ b′ < left-to-climb (N * B) K a b
