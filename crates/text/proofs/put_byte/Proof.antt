@@ -1,0 +1,36 @@
+-- `text::put_byte` meets its contract: past the end of the buffer `set` does nothing.
+use mathlib.Core.Path.{refl, sym}
+use lib.Seq.{set-out}
+use borrow.Author.Needs.{needs}
+use Rattle.text.proofs.put_byte.Statement.{statement}
+use Rattle.text.proofs.put_byte.Tie as tie
+use Rattle.text.proofs.put_byte.Reads as reads
+use Rattle.text.proofs.put_byte.Lts as lts
+
+-- src/lib.rt:19:9
+slice-write-out : tie.Need-slice-write-out
+slice-write-out c = search needs
+
+-- src/lib.rt:20:16
+add-result : tie.Need-add-result
+add-result c = search needs
+
+-- src/lib.rt:20:9
+same-length : tie.Need-same-length
+same-length c = search needs
+
+-- src/lib.rt:20:9
+returns : tie.Need-returns
+returns c = search needs
+
+-- src/lib.rt:22:5
+add-result-2 : tie.Need-add-result-2
+add-result-2 c = search needs
+
+-- src/lib.rt:14:1
+returns-2 : tie.Need-returns-2
+returns-2 c = (refl, sym (set-out _ _ _ (c .if1 .left)))
+
+pub put-byte-spec : {M : Type 1} → statement M
+put-byte-spec =
+    tie.close (tie.spec slice-write-out add-result same-length returns add-result-2 returns-2)

@@ -1,0 +1,20 @@
+-- Numbers and words as bytes of text (document 01, "The report"): "Words and numbers are parted by one space", "Each line ends in one line feed".
+use mathlib.Core.Bool.{Bool, cond}
+use mathlib.Core.List.{List, [], _∷_, _++_}
+use Prim.Native.Nat.{ℕ, zero, suc, _+_, _*_, _/_, _%_}
+use lib.Dec.{ltb}
+
+-- a number in decimal digits, in at most so many of them, the last first to be known
+unfoldable pub spelled : ℕ → ℕ → List ℕ
+spelled zero v = []
+spelled (suc left) v = cond (ltb v 10) ((48 + v) ∷ []) (spelled left (v / 10) ++ (48 + v % 10) ∷ [])
+
+-- a number of 64 bits has at most twenty digits
+abbrev pub decimal : ℕ → List ℕ
+decimal v = spelled 20 v
+
+abbrev pub space : ℕ
+space = 32
+
+abbrev pub feed : ℕ
+feed = 10
