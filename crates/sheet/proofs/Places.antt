@@ -14,6 +14,16 @@ pub record Fit (n kind to from : ℕ) : Type 0 where
   pub some-from : 1 ≤ from
   pub few-from : from ≤ n
 
+-- the code's steps to a place
+pub record Steps (n kind to from : ℕ) : Type 0 where
+  pub kinds : kind * n ≤ 36
+  pub rows : (kind * n + (to - 1)) * n ≤ 576
+  pub events : n ≤ 12
+  pub some-to : 1 ≤ to
+  pub few-to : to ≤ n
+  pub some-from : 1 ≤ from
+  pub few-from : from ≤ n
+
 module _ (n kind to from : ℕ) (f : Fit n kind to from) where
   row : kind * n + (to - 1) + 1 ≤ 4 * n
   row = omega (arith, mul-le-mul-right n (f .kinds), f .some-to, f .few-to)
@@ -31,8 +41,17 @@ module _ (n kind to from : ℕ) (f : Fit n kind to from) where
       )
 
   -- and the code's steps to it stay small
-  pub steps-fit : n ≤ 12 → (kind * n ≤ 36) × ((kind * n + (to - 1)) * n ≤ 576)
-  steps-fit h = (mul-le-mul (f .kinds) h, mul-le-mul {n₁ = kind * n + (to - 1)} {n₂ = 48} (omega (arith, row)) h)
+  pub steps-fit : n ≤ 12 → Steps n kind to from
+  steps-fit h =
+      record {
+        kinds = mul-le-mul (f .kinds) h;
+        rows = mul-le-mul {n₁ = kind * n + (to - 1)} {n₂ = 48} (omega (arith, row)) h;
+        events = h;
+        some-to = f .some-to;
+        few-to = f .few-to;
+        some-from = f .some-from;
+        few-from = f .few-from;
+      }
 
   -- the numbers of a place are the numbers that it was made of
   from-small : from - 1 < n

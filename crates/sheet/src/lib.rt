@@ -141,13 +141,16 @@ fn read_window(file: &[u8], n: usize, low: usize, at: usize) -> Found
             number: refusal(third),
         };
     };
-    let fourth = number_within(file, c, 0, MOST_CODE, 6);
+    let fourth = numbers::number_at(file, c);
     let Number::Value { value: code, next } = fourth else {
         return Found::Refused {
             number: refusal(fourth),
         };
     };
     let place = (kind * n + (to - 1)) * n + (from - 1);
+    if MOST_CODE < code {
+        return Found::Refused { number: 6 };
+    }
     if place < low {
         return Found::Refused { number: 7 };
     }

@@ -9,16 +9,16 @@ use Rattle.numbers.specs.Signs.{decoded}
 use Rattle.numbers.specs.declared.Number.the-variants.{Value, Refused}
 use Rattle.tables.specs.Sheets.{within, inLimit}
 use Rattle.tables.proofs.Laws.{within-is}
-use Rattle.sheet.specs.File.{Part, got, refused, Window, window, windowAt, rising, inMode, tested}
-use Rattle.sheet.specs.Steps.{between}
-use Rattle.sheet.proofs.Numbers.{after-value, after-refused, tested-same, tested-value, limits, refused-is, both}
-use Rattle.sheet.proofs.Places.{Fit, in-part, steps-fit}
+use Rattle.sheet.specs.File.{Part, got, refused, Window, window, windowAt, rising, inMode, tested, after}
+use Rattle.sheet.proofs.Numbers.{after-value, after-refused, tested-refused, tested-yes, tested-no, tested-value, limits, up-to, refused-is}
+use Rattle.sheet.proofs.Places.{Fit, Steps, steps-fit}
 use borrow.Author.Needs.{needs}
 use Rattle.sheet.proofs.read_window.Statement.{statement}
 use Rattle.sheet.proofs.read_window.Tie as tie
 use Rattle.sheet.proofs.read_window.Reads as reads
 use Rattle.sheet.proofs.read_window.Lts as lts
 use Rattle.sheet.proofs.kind_at.Reads as kind-at-reads
+use Rattle.numbers.proofs.number_at.Reads as number-at-reads
 use Rattle.sheet.proofs.number_within.Reads as number-within-reads
 use Rattle.sheet.proofs.refusal.Reads as refusal-reads
 
@@ -45,17 +45,29 @@ to-is c = sym (c .before .before .before .number-within .ensures) ∙ c .before 
 from-is : (c : tie.After-known-told3) → tested (within (S (K1 (K2 c)) .args .n)) 6 (numberAt (S (K1 (K2 c)) .args .file .now) (K2 c .before .second .given .0 .1 .0)) ≡ Value (c .before .third .given .0 .0) (c .before .third .given .0 .1 .0)
 from-is c = sym (c .before .before .before .number-within2 .ensures) ∙ c .before .third .given .1
 
-value-is : (c : tie.After-known-told4) → tested (λ u. inLimit (decoded u)) 6 (numberAt (S (K1 (K2 (K3 c))) .args .file .now) (K3 c .before .third .given .0 .1 .0)) ≡ Value (c .before .fourth .given .0 .0) (c .before .fourth .given .0 .1 .0)
-value-is c =
-    sym (tested-same (between 0 2000000) (λ u. inLimit (decoded u)) limits 6 (numberAt (S (K1 (K2 (K3 c))) .args .file .now) (K3 c .before .third .given .0 .1 .0)))
-    ∙ sym (c .before .before .before .number-within3 .ensures) ∙ c .before .fourth .given .1
+code-at : (c : tie.After-known-told4) → numberAt (S (K1 (K2 (K3 c))) .args .file .now) (K3 c .before .third .given .0 .1 .0) ≡ Value (c .before .fourth .given .0 .0) (c .before .fourth .given .0 .1 .0)
+code-at c = sym (c .before .before .before .number-at .ensures) ∙ c .before .fourth .given .1
 
--- what is left after all four
-left : (c : tie.After-known-told4) → let a = S (K1 (K2 (K3 c))) .args in
+-- the file's limits: 1,000,000 is written as 2,000,000
+in-limit : (u : ℕ) → u ≤ 2000000 → inLimit (decoded u) ≡ true
+in-limit u h = sym (limits u) ∙ up-to u 2000000 ∙ le-leb u 2000000 h
+
+past-limit : (u : ℕ) → 2000000 < u → inLimit (decoded u) ≡ false
+past-limit u h = sym (limits u) ∙ up-to u 2000000 ∙ lt-leb u 2000000 h
+
+-- what is left before the fourth, and after all four
+fourth : (c : tie.After-known-told3) → let a = S (K1 (K2 c)) .args in
     windowAt (a .file .now) (a .n) (a .low) (a .at)
-    ≡ rising (a .low) (inMode (a .n) (K1 (K2 (K3 c)) .before .first .given .0 .0) (K2 (K3 c) .before .second .given .0 .0) (K3 c .before .third .given .0 .0)) (decoded (c .before .fourth .given .0 .0)) (c .before .fourth .given .0 .1 .0)
+    ≡ after (tested (λ u. inLimit (decoded u)) 6 (numberAt (a .file .now) (c .before .third .given .0 .1 .0))) λ u d.
+    rising (a .low) (inMode (a .n) (K1 (K2 c) .before .first .given .0 .0) (K2 c .before .second .given .0 .0) (c .before .third .given .0 .0)) (decoded u) d
 unfolding windowAt
-left c = after-value _ _ _ _ (kind-is (K1 (K2 (K3 c)))) ∙ after-value _ _ _ _ (to-is (K2 (K3 c))) ∙ after-value _ _ _ _ (from-is (K3 c)) ∙ after-value _ _ _ _ (value-is c)
+fourth c = after-value _ _ _ _ (kind-is (K1 (K2 c))) ∙ after-value _ _ _ _ (to-is (K2 c)) ∙ after-value _ _ _ _ (from-is c)
+
+left : (c : tie.Else1) → let k = c .before in let a = S (K1 (K2 (K3 k))) .args in
+    windowAt (a .file .now) (a .n) (a .low) (a .at)
+    ≡ rising (a .low) (inMode (a .n) (K1 (K2 (K3 k)) .before .first .given .0 .0) (K2 (K3 k) .before .second .given .0 .0) (K3 k .before .third .given .0 .0)) (decoded (k .before .fourth .given .0 .0)) (k .before .fourth .given .0 .1 .0)
+left c = let k = c .before in
+    fourth (K3 k) ∙ after-value _ _ _ _ (tested-yes (λ u. inLimit (decoded u)) 6 _ _ _ (code-at k) (in-limit (k .before .fourth .given .0 .0) (c .if1 .left)))
 
 fit : (c : tie.After-known-told3) → Fit (S (K1 (K2 c)) .args .n) (K1 (K2 c) .before .first .given .0 .0) (K2 c .before .second .given .0 .0) (c .before .third .given .0 .0)
 fit c =
@@ -69,6 +81,9 @@ fit c =
       some-from = f .0;
       few-from = f .1;
     }
+
+steps : (c : tie.After-known-told4) → Steps (S (K1 (K2 (K3 c))) .args .n) (K1 (K2 (K3 c)) .before .first .given .0 .0) (K2 (K3 c) .before .second .given .0 .0) (K3 c .before .third .given .0 .0)
+steps c = steps-fit _ _ _ _ (fit (K3 c)) (S (K1 (K2 (K3 c))) .pre)
 
 kind-at-requires : tie.Need-kind-at-requires
 kind-at-requires c κs = search needs
@@ -124,8 +139,8 @@ returns-3 c = let k = c .before .before .before .before in
     ap refused (refused-is _ _ _ (c .refusal3 .ensures) (c .before .enum-told3 .given .1))
     ∙ sym (after-value _ _ _ _ (kind-is (K1 k)) ∙ after-value _ _ _ _ (to-is k) ∙ after-refused _ _ _ (sym (c .before .before .before .number-within2 .ensures) ∙ c .before .enum-told3 .given .1))
 
-number-within-requires-3 : tie.Need-number-within-requires-3
-number-within-requires-3 c κs = search needs
+number-at-requires : tie.Need-number-at-requires
+number-at-requires c κs = search needs
 
 enum-known-fourth : tie.Need-enum-known-fourth
 enum-known-fourth c = search needs
@@ -137,44 +152,42 @@ refusal-requires-4 : tie.Need-refusal-requires-4
 refusal-requires-4 c κs = search needs
 
 returns-4 : tie.Need-returns-4
-unfolding windowAt
 returns-4 c = let k = c .before .before .before .before in
-    let n = c .before .before .before in
     ap refused (refused-is _ _ _ (c .refusal4 .ensures) (c .before .enum-told4 .given .1))
-    ∙ sym (after-value _ _ _ _ (kind-is (K1 (K2 k))) ∙ after-value _ _ _ _ (to-is (K2 k)) ∙ after-value _ _ _ _ (from-is k)
-    ∙ after-refused _ _ _ (sym (tested-same (between 0 2000000) (λ u. inLimit (decoded u)) limits 6 (numberAt (S (K1 (K2 k)) .args .file .now) (k .before .third .given .0 .1 .0))) ∙ sym (n .number-within3 .ensures) ∙ c .before .enum-told4 .given .1))
+    ∙ sym (fourth k ∙ after-refused _ _ _ (tested-refused (λ u. inLimit (decoded u)) 6 _ _ (sym (c .before .before .before .number-at .ensures) ∙ c .before .enum-told4 .given .1)))
 
 mul-place : tie.Need-mul-place
-mul-place c = let k = K3 c in let f = fit k in let z = steps-fit _ _ _ _ f (S (K1 (K2 k)) .pre) in omega (arith, z .0, z .1, f .some-to, f .few-to, f .some-from, f .few-from, S (K1 (K2 k)) .pre)
+mul-place c = omega (arith, steps c)
 
 sub-place : tie.Need-sub-place
-sub-place c = let k = K3 c in let f = fit k in let z = steps-fit _ _ _ _ f (S (K1 (K2 k)) .pre) in omega (arith, z .0, z .1, f .some-to, f .few-to, f .some-from, f .few-from, S (K1 (K2 k)) .pre)
+sub-place c = omega (arith, steps c)
 
 add-place : tie.Need-add-place
-add-place c = let k = K3 c in let f = fit k in let z = steps-fit _ _ _ _ f (S (K1 (K2 k)) .pre) in omega (arith, z .0, z .1, f .some-to, f .few-to, f .some-from, f .few-from, S (K1 (K2 k)) .pre)
+add-place c = omega (arith, steps c)
 
 mul-place-2 : tie.Need-mul-place-2
-mul-place-2 c = let k = K3 c in let f = fit k in let z = steps-fit _ _ _ _ f (S (K1 (K2 k)) .pre) in omega (arith, z .0, z .1, f .some-to, f .few-to, f .some-from, f .few-from, S (K1 (K2 k)) .pre)
+mul-place-2 c = omega (arith, steps c)
 
 sub-place-2 : tie.Need-sub-place-2
-sub-place-2 c = let k = K3 c in let f = fit k in let z = steps-fit _ _ _ _ f (S (K1 (K2 k)) .pre) in omega (arith, z .0, z .1, f .some-to, f .few-to, f .some-from, f .few-from, S (K1 (K2 k)) .pre)
+sub-place-2 c = omega (arith, steps c)
 
 add-place-2 : tie.Need-add-place-2
-add-place-2 c = let k = K3 c in let f = fit k in let z = steps-fit _ _ _ _ f (S (K1 (K2 k)) .pre) in omega (arith, z .0, z .1, f .some-to, f .few-to, f .some-from, f .few-from, S (K1 (K2 k)) .pre)
+add-place-2 c = omega (arith, steps c)
 
 returns-5 : tie.Need-returns-5
-unfolding rising
-returns-5 c = sym (left (c .before) ∙ rw (lt-leb _ _ (c .if1 .taken)))
-
-cast-t28 : tie.Need-cast-t28
-cast-t28 c = let k = c .before in
-    let v = k .before .fourth .given .0 .0 in
-    let b = both (leb 0 v) (leb v 2000000) (tested-value _ _ _ _ _ (sym (k .before .before .before .number-within3 .ensures) ∙ k .before .fourth .given .1) .1) in
-    omega (arith, leb-true v 2000000 (b .1))
+returns-5 c = let k = c .before in
+    sym (fourth (K3 k) ∙ after-refused _ _ _ (tested-no (λ u. inLimit (decoded u)) 6 _ _ _ (code-at k) (past-limit (k .before .fourth .given .0 .0) (c .if1 .taken))))
 
 returns-6 : tie.Need-returns-6
 unfolding rising
-returns-6 c = sym (left (c .before) ∙ rw (le-leb _ _ (c .if1 .left)))
+returns-6 c = sym (left (c .before) ∙ rw (lt-leb _ _ (c .if2 .taken)))
+
+cast-t28 : tie.Need-cast-t28
+cast-t28 c = omega (arith, c .before .if1 .left)
+
+returns-7 : tie.Need-returns-7
+unfolding rising
+returns-7 c = sym (left (c .before) ∙ rw (le-leb _ _ (c .if2 .left)))
 
 pub read-window-spec : {M : Type 1} → statement M
 read-window-spec =
@@ -195,7 +208,7 @@ read-window-spec =
     enum-told-3
     refusal-requires-3
     returns-3
-    number-within-requires-3
+    number-at-requires
     enum-known-fourth
     enum-told-4
     refusal-requires-4
@@ -207,5 +220,6 @@ read-window-spec =
     sub-place-2
     add-place-2
     returns-5
+    returns-6
     cast-t28
-    returns-6)
+    returns-7)
