@@ -1,11 +1,11 @@
 -- The windows of a part, the modes and the schedule, written one after the other: the steps of the writer's loops.
 use mathlib.Core.Path.{_≡_, refl, sym, ap, _∙_}
 use mathlib.Core.Bool.{Bool, true, false}
-use mathlib.Core.List.{List, [], _∷_, _++_}
+use mathlib.Core.List.{List, [], _∷_, _++_, append-assoc}
 use Prim.Native.Nat.{ℕ, zero, suc, _+_, _-_, _*_, _/_, _%_, _≤_, _<_}
 use native.Mathlib.Omega.{arith}
 use native.Mathlib.Numerals.{add-one}
-use native.Mathlib.Nat.{add-mul}
+use native.Mathlib.Nat.{add-mul, mul-le-mul-right}
 use lib.IntN.{ℤ, pos}
 use lib.ListN.{length, take, drop, getD, length-append, length-take, length-drop}
 use lib.Seq.{drop-cons, drop-drop, take-all, length-take-le}
@@ -100,6 +100,41 @@ module _ (part : List ℤ) (size k n : ℕ) (out : List ℕ) (p : ℕ) (whole : 
 
 pub cell-short : (n k : ℕ) (v : ℤ) (out : List ℕ) (p r : ℕ) (now : List ℕ) → state r now ≡ run out p (records n (cell k v)) → r ≤ p + 16
 cell-short n k v out p r now e = omega (arith, run-few out p (records n (cell k v)) r now e, length-records n (cell k v), cell-few k v)
+
+-- the places up to one between, and those from it on
+pub left-split : (d : ℕ) (part : List ℤ) (c a : ℕ) → a + d ≤ c → a + d ≤ length part → left part c a ≡ left part (a + d) a ++ left part c (a + d)
+left-split zero part c a h g = rw (left-none part (a + zero) a (omega arith)) (ap (left part c) (same a))
+  where
+    same : (a : ℕ) → a ≡ a + zero
+    same a = omega arith
+left-split (suc d) part c a h g =
+    left-cons part c a (omega arith) (omega arith)
+    ∙ ap (λ (l : List Window). cell a (getD part a (pos 0)) ++ l) (left-split d part c (a + 1) (omega arith) (omega arith) ∙ ap (λ (k : ℕ). left part k (a + 1) ++ left part c k) (same a d))
+    ∙ sym (append-assoc (cell a (getD part a (pos 0))) (left part (a + suc d) (a + 1)) (left part c (a + suc d)))
+    ∙ ap (λ (l : List Window). l ++ left part c (a + suc d)) (sym (left-cons part (a + suc d) a (omega arith) (omega arith)))
+  where
+    same : (a d : ℕ) → a + 1 + d ≡ a + suc d
+    same a d = omega arith
+
+-- ---- the kinds of a mode: some of them are passed
+pub places-short : (n a size : ℕ) (part : List ℤ) (out : List ℕ) (p r : ℕ) (now : List ℕ) → length (take (size - a) (drop a part)) ≤ 144 → state r now ≡ run out p (records n (left part size a)) → r ≤ p + 2304
+places-short n a size part out p r now h e = omega (arith, run-few out p (records n (left part size a)) r now e, length-records n (left part size a), windows-few a (take (size - a) (drop a part)))
+
+module _ (part : List ℤ) (n kind : ℕ) (out : List ℕ) (p : ℕ) (whole : State) (e : run out p (records n (left part (4 * (n * n)) (kind * (n * n)))) ≡ whole) where
+  pub kinds-next : kind * (n * n) + n * n ≤ 4 * (n * n) → 4 * (n * n) ≤ length part → (r : ℕ) (now : List ℕ) → state r now ≡ run out p (records n (left part (kind * (n * n) + n * n) (kind * (n * n))))
+      → run now r (records n (left part (4 * (n * n)) ((kind + 1) * (n * n)))) ≡ whole
+  kinds-next h g r now q =
+      ap (λ (k : ℕ). run now r (records n (left part (4 * (n * n)) k))) (step kind (n * n))
+      ∙ run-then out p (records n (left part (kind * (n * n) + n * n) (kind * (n * n)))) r now q (records n (left part (4 * (n * n)) (kind * (n * n) + n * n)))
+      ∙ ap (λ (l : List ℕ). run out p l) (sym (ap (records n) (left-split (n * n) part (4 * (n * n)) (kind * (n * n)) h (omega arith)) ∙ records-append n (left part (kind * (n * n) + n * n) (kind * (n * n))) (left part (4 * (n * n)) (kind * (n * n) + n * n))))
+      ∙ e
+    where
+      step : (t k : ℕ) → (t + 1) * k ≡ t * k + k
+      step t k = omega (arith, add-mul t 1 k)
+
+  pub kinds-done : 4 ≤ kind → state p out ≡ whole
+  unfolding records
+  kinds-done h = run-none out p ∙ ap (λ (l : List Window). run out p (records n l)) (sym (left-none part (4 * (n * n)) (kind * (n * n)) (mul-le-mul-right (n * n) h))) ∙ e
 
 -- ---- the modes: t of them are passed
 pub mode-short : (n : ℕ) (part : List ℤ) (out : List ℕ) (p r : ℕ) (now : List ℕ) → length part ≤ 576 → state r now ≡ run out p (modeNumbers n part) → r ≤ p + 9220

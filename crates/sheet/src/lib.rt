@@ -3,7 +3,7 @@
 // It renders document 01's "The sheet file".
 use numbers::Number;
 ghost use mathlib.Core.Path.{_≡_};
-ghost use Prim.Native.Nat.{_+_, _*_, _/_, _%_, _≤_, _<_};
+ghost use Prim.Native.Nat.{_+_, _-_, _*_, _/_, _%_, _≤_, _<_};
 ghost use mathlib.Core.List.{[], _∷_};
 ghost use lib.ListN.{length, set, replicate, take, drop};
 ghost use lib.Seq.{sets};
@@ -66,6 +66,8 @@ enum Ending {
 }
 
 const FORMAT: usize = 1;
+
+const KINDS: usize = 4;
 
 const MOST_CODE: usize = 2000000;
 
@@ -441,16 +443,39 @@ fn count_windows(part: &[i32], size: usize) -> usize
     count
 }
 
-// Writes the records of one mode from a place on.
-fn write_windows(out: &mut [u8], at: usize, n: usize, size: usize, part: &[i32]) -> usize
-    requires { ⌜ (1 ≤ n) × (n ≤ 12) × (size ≤ 576) × (size ≤ length (now part)) × (at ≤ 200000) ⌝ }
-    ensures { λ r. ⌜ state r (now (out .exit)) ≡ run (now (out .entry)) at (records n (windowsOf 0 (take size (now (part .entry))))) ⌝ }
+// Writes the records of a part's places from `start` to before `end`.
+fn write_places(
+    out: &mut [u8],
+    at: usize,
+    n: usize,
+    start: usize,
+    end: usize,
+    part: &[i32],
+) -> usize
+    requires { ⌜ (1 ≤ n) × (n ≤ 12) × (start ≤ end) × (end ≤ 576) × (end ≤ length (now part)) × (at ≤ 400000) ⌝ }
+    ensures { λ r. ⌜ state r (now (out .exit)) ≡ run (now (out .entry)) at (records n (windowsOf start (take (end - start) (drop start (now (part .entry)))))) ⌝ }
 {
     let mut p = at;
-    let mut k: usize = 0;
-    while k < size {
+    let mut k = start;
+    while k < end {
         p = write_cell(out, p, n, k, part[k]);
         k += 1;
+    }
+    p
+}
+
+// Writes the records of one mode, kind after kind.
+fn write_windows(out: &mut [u8], at: usize, n: usize, part: &[i32]) -> usize
+    requires { ⌜ (1 ≤ n) × (n ≤ 12) × (4 * (n * n) ≤ length (now part)) × (at ≤ 200000) ⌝ }
+    ensures { λ r. ⌜ state r (now (out .exit)) ≡ run (now (out .entry)) at (records n (windowsOf 0 (take (4 * (n * n)) (now (part .entry))))) ⌝ }
+{
+    let square = n * n;
+    let mut p = at;
+    let mut kind: usize = 0;
+    while kind < KINDS {
+        let start = kind * square;
+        p = write_places(out, p, n, start, start + square, part);
+        kind += 1;
     }
     p
 }
@@ -462,7 +487,7 @@ fn write_mode(out: &mut [u8], at: usize, n: usize, part: &[i32]) -> usize
 {
     let size = 4 * (n * n);
     let a = write_number(out, at, count_windows(part, size));
-    write_windows(out, a, n, size, part)
+    write_windows(out, a, n, part)
 }
 
 // Writes every mode, each from the part of the tables that starts at 4t·n².

@@ -33,7 +33,7 @@ write-number-requires c κs = search needs
 
 write-windows-requires : tie.Need-write-windows-requires
 write-windows-requires c κs = let w = c .before .before .before in let s = w .before .before .before .before in
-    (s .pre .0, s .pre .1, few (s .args .n) (s .pre .1), s .pre .2, omega (arith, run-few _ _ _ _ _ (w .write-number .ensures), s .pre .3))
+    (s .pre .0, s .pre .1, s .pre .2, omega (arith, run-few _ _ _ _ _ (w .write-number .ensures), s .pre .3))
 
 same-length : tie.Need-same-length
 same-length c = search needs
