@@ -198,10 +198,10 @@ fn read_windows(file: &[u8], n: usize, count: usize, at: usize, part: &mut [i32]
 fn clear(part: &mut [i32], size: usize)
     ensures { λ _. ⌜ now (part .exit) ≡ sets (now (part .entry)) 0 (replicate size noWindow) ⌝ }
 {
-    let mut k: usize = 0;
-    while k < size {
-        put_value(part, k, tables::NO_WINDOW);
-        k += 1;
+    let mut place: usize = 0;
+    while place < size {
+        put_value(part, place, tables::NO_WINDOW);
+        place += 1;
     }
 }
 

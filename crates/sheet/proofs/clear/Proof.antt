@@ -16,10 +16,10 @@ use Rattle.sheet.proofs.clear.Lts as lts
 use Rattle.sheet.proofs.put_value.Reads as put-value-reads
 
 abbrev Inv-loop : tie.InvT-loop
-Inv-loop part₀ size k₀ part k = (k ≤ size) × (length part ≡ length part₀) × (sets part k (replicate (size - k) noWindow) ≡ sets part₀ 0 (replicate size noWindow))
+Inv-loop part₀ size place₀ part place = (place ≤ size) × (length part ≡ length part₀) × (sets part place (replicate (size - place) noWindow) ≡ sets part₀ 0 (replicate size noWindow))
 
 abbrev μ-loop : tie.MeasureT-loop
-μ-loop part₀ size k₀ part k = size - k
+μ-loop part₀ size place₀ part place = size - place
 
 loop-holds : tie.Need-loop-holds Inv-loop μ-loop
 loop-holds c = (omega arith, refl, ap (λ (m : ℕ). sets (c .args .part .now) 0 (replicate m noWindow)) (sub-zero (c .args .size)))
@@ -27,8 +27,8 @@ loop-holds c = (omega arith, refl, ap (λ (m : ℕ). sets (c .args .part .now) 0
 put-value-requires : tie.Need-put-value-requires Inv-loop μ-loop
 put-value-requires c κs = search needs
 
-add-k : tie.Need-add-k Inv-loop μ-loop
-add-k c = search needs
+add-place : tie.Need-add-place Inv-loop μ-loop
+add-place c = search needs
 
 loop-less : tie.Need-loop-less Inv-loop μ-loop
 loop-less c = search needs
@@ -37,14 +37,14 @@ loop-again : tie.Need-loop-again Inv-loop μ-loop
 loop-again c = let v = c .before in let l = v .before .before .before in let s = l .before in (
   omega arith,
   v .put-value .kept .0 ∙ l .loop .inv .1,
-  rw (v .put-value .ensures) (clear-next (l .loop .part) (s .args .size) (l .loop .k) _ (l .loop .inv .2) (omega arith)),
+  rw (v .put-value .ensures) (clear-next (l .loop .part) (s .args .size) (l .loop .place) _ (l .loop .inv .2) (omega arith)),
 )
 
 same-length : tie.Need-same-length Inv-loop μ-loop
 same-length c = search needs
 
 returns : tie.Need-returns Inv-loop μ-loop
-returns c = let l = c .before in clear-done (l .loop .part) (l .before .args .size) (l .loop .k) _ (l .loop .inv .2) (c .loop-test .left)
+returns c = let l = c .before in clear-done (l .loop .part) (l .before .args .size) (l .loop .place) _ (l .loop .inv .2) (c .loop-test .left)
 
 pub clear-spec : {M : Type 1} → statement M
 clear-spec =
@@ -54,7 +54,7 @@ clear-spec =
     μ-loop
     loop-holds
     put-value-requires
-    add-k
+    add-place
     loop-less
     loop-again
     same-length
