@@ -14,3 +14,6 @@ pub mod Back
 pub mod Admitted
 pub mod There
 pub mod Longest
+pub mod Samples
+pub mod Trips
+pub mod Orders

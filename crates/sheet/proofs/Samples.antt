@@ -1,0 +1,68 @@
+-- The definitions, run on document 01's own sheets and on a file for each refusal.
+use mathlib.Core.Path.{_≡_, refl}
+use mathlib.Core.List.{List, [], _∷_, map}
+use Prim.Native.Nat.{ℕ}
+use lib.IntN.{ℤ, pos, negsuc}
+use Rattle.numbers.specs.Groups.{numberIn, group, followed, grouped}
+use Rattle.tables.specs.Sheets.{Sheet, sheet, noWindow}
+use Rattle.sheet.specs.File.{Part, got, refused, tested, after, andThen, rising, windowAt, windowsAt, modeAt, modesAt, put, laid, tablesOf, ended, tablesAt, scheduleAt, countsAt, sheetAfter, sheetIn}
+use Rattle.sheet.specs.Written.{inGroups, cell, windowsOf, records, modeNumbers, modesNumbers, sheetNumbers, written}
+
+-- "The first sheet is `01 01 01 01 00 02 02 01 01 0A 03 01 01 10`": n=1, 2:1,1=5, 3:1,1=8
+pub first : sheetIn (1 ∷ 1 ∷ 1 ∷ 1 ∷ 0 ∷ 2 ∷ 2 ∷ 1 ∷ 1 ∷ 10 ∷ 3 ∷ 1 ∷ 1 ∷ 16 ∷ []) ≡ got (sheet 1 1 1 (noWindow ∷ noWindow ∷ pos 5 ∷ pos 8 ∷ []) (0 ∷ [])) 14
+unfolding sheetIn sheetAfter countsAt scheduleAt tablesAt ended modesAt modeAt windowsAt windowAt rising tested after andThen put laid tablesOf numberIn group followed
+first = refl
+
+pub first-written : written (sheet 1 1 1 (noWindow ∷ noWindow ∷ pos 5 ∷ pos 8 ∷ []) (0 ∷ [])) ≡ 1 ∷ 1 ∷ 1 ∷ 1 ∷ 0 ∷ 2 ∷ 2 ∷ 1 ∷ 1 ∷ 10 ∷ 3 ∷ 1 ∷ 1 ∷ 16 ∷ []
+unfolding written sheetNumbers modesNumbers modeNumbers records windowsOf cell inGroups grouped
+first-written = refl
+
+-- the report's sheet: n=2, 0:2,1=3, 1:2,1=4, 2:1,2=2
+pub report : sheetIn (1 ∷ 2 ∷ 1 ∷ 1 ∷ 0 ∷ 3 ∷ 0 ∷ 2 ∷ 1 ∷ 6 ∷ 1 ∷ 2 ∷ 1 ∷ 8 ∷ 2 ∷ 1 ∷ 2 ∷ 4 ∷ [])
+    ≡ got (sheet 2 1 1 (noWindow ∷ noWindow ∷ pos 3 ∷ noWindow ∷ noWindow ∷ noWindow ∷ pos 4 ∷ noWindow ∷ noWindow ∷ pos 2 ∷ noWindow ∷ noWindow ∷ noWindow ∷ noWindow ∷ noWindow ∷ noWindow ∷ []) (0 ∷ [])) 18
+unfolding sheetIn sheetAfter countsAt scheduleAt tablesAt ended modesAt modeAt windowsAt windowAt rising tested after andThen put laid tablesOf numberIn group followed
+report = refl
+
+-- the number of a file's refusal, and 0 for a sheet
+abbrev numberOf : Part Sheet → ℕ
+numberOf (got s next) = 0
+numberOf (refused k) = k
+
+-- a file for each refusal of the reader that lies in the file, and some for the order of them
+pub refusals : map (λ file. numberOf (sheetIn file)) (
+    -- "An empty file is 1"; a file that stops in a number, and in a record
+    []
+    ∷ (129 ∷ [])
+    ∷ (1 ∷ 1 ∷ 1 ∷ 1 ∷ 0 ∷ 1 ∷ 2 ∷ 1 ∷ [])
+    -- not shortest; a fourth group marked as followed, whatever comes after it
+    ∷ (129 ∷ 0 ∷ [])
+    ∷ (129 ∷ 128 ∷ 128 ∷ 128 ∷ [])
+    ∷ (129 ∷ 128 ∷ 128 ∷ 128 ∷ 1 ∷ [])
+    -- another format
+    ∷ (2 ∷ [])
+    -- n, m and V past their limits
+    ∷ (1 ∷ 0 ∷ [])
+    ∷ (1 ∷ 13 ∷ [])
+    ∷ (1 ∷ 12 ∷ 9 ∷ [])
+    ∷ (1 ∷ 12 ∷ 8 ∷ 17 ∷ [])
+    -- a mode that there is not
+    ∷ (1 ∷ 1 ∷ 1 ∷ 1 ∷ 1 ∷ [])
+    -- too many records, no such kind, no such event, a value past its limit either way
+    ∷ (1 ∷ 1 ∷ 1 ∷ 1 ∷ 0 ∷ 5 ∷ [])
+    ∷ (1 ∷ 1 ∷ 1 ∷ 1 ∷ 0 ∷ 1 ∷ 4 ∷ [])
+    ∷ (1 ∷ 1 ∷ 1 ∷ 1 ∷ 0 ∷ 1 ∷ 0 ∷ 2 ∷ [])
+    ∷ (1 ∷ 1 ∷ 1 ∷ 1 ∷ 0 ∷ 1 ∷ 0 ∷ 1 ∷ 0 ∷ [])
+    ∷ (1 ∷ 1 ∷ 1 ∷ 1 ∷ 0 ∷ 1 ∷ 0 ∷ 1 ∷ 1 ∷ 130 ∷ 137 ∷ 122 ∷ [])
+    ∷ (1 ∷ 1 ∷ 1 ∷ 1 ∷ 0 ∷ 1 ∷ 0 ∷ 1 ∷ 1 ∷ 129 ∷ 137 ∷ 122 ∷ [])
+    -- a record that does not rise, and one that in its place has a value past its limit too: 6 comes first
+    ∷ (1 ∷ 1 ∷ 1 ∷ 1 ∷ 0 ∷ 2 ∷ 0 ∷ 1 ∷ 1 ∷ 0 ∷ 0 ∷ 1 ∷ 1 ∷ 0 ∷ [])
+    ∷ (1 ∷ 1 ∷ 1 ∷ 1 ∷ 0 ∷ 2 ∷ 0 ∷ 1 ∷ 1 ∷ 0 ∷ 0 ∷ 1 ∷ 1 ∷ 130 ∷ 137 ∷ 122 ∷ [])
+    -- a byte after the sheet
+    ∷ (1 ∷ 1 ∷ 1 ∷ 1 ∷ 0 ∷ 0 ∷ 0 ∷ [])
+    -- 1,000,000 and -1,000,000 themselves
+    ∷ (1 ∷ 1 ∷ 1 ∷ 1 ∷ 0 ∷ 1 ∷ 0 ∷ 1 ∷ 1 ∷ 128 ∷ 137 ∷ 122 ∷ [])
+    ∷ (1 ∷ 1 ∷ 1 ∷ 1 ∷ 0 ∷ 1 ∷ 0 ∷ 1 ∷ 1 ∷ 255 ∷ 136 ∷ 122 ∷ [])
+    ∷ []
+    ) ≡ 1 ∷ 1 ∷ 1 ∷ 2 ∷ 2 ∷ 2 ∷ 3 ∷ 4 ∷ 4 ∷ 4 ∷ 4 ∷ 5 ∷ 6 ∷ 6 ∷ 6 ∷ 6 ∷ 6 ∷ 6 ∷ 7 ∷ 6 ∷ 8 ∷ 0 ∷ 0 ∷ []
+unfolding sheetIn sheetAfter countsAt scheduleAt tablesAt ended modesAt modeAt windowsAt windowAt rising tested after andThen put laid tablesOf numberIn group followed
+refusals = refl
