@@ -5,3 +5,4 @@ pub mod Weighing
 pub mod Held
 pub mod Copies
 pub mod Climbing
+pub mod Searching

@@ -2,3 +2,4 @@ pub mod Ends
 pub mod Weights
 pub mod Limits
 pub mod Climbs
+pub mod Searches

@@ -3,4 +3,5 @@
 // It renders document 01's "Ends" and the line on Ends in "Numbers a call can answer".
 mod circuits;
 mod limits;
+mod search;
 mod weights;
