@@ -13,7 +13,7 @@ use Rattle.tables.proofs.Laws.{Admitted}
 use Rattle.windows.specs.Arcs.{nodes, arcs}
 use Rattle.windows.proofs.Endless.{meaning}
 use Rattle.windows.proofs.Limits.{sheet-laid}
-use Rattle.ends.specs.Ends.{Runs}
+use Rattle.windows.specs.Inequalities.{Runs}
 
 module _ (s : Sheet) (some : 0 < s .positions) where
   -- what works by the arcs runs by the inequalities

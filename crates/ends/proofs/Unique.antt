@@ -7,7 +7,8 @@ use lib.ListN.{length, drop}
 use Rattle.theory.specs.Ends.{High, Range, Never}
 use Rattle.theory.proofs.Fractions.{range-same, low-works}
 use Rattle.tables.specs.Sheets.{Sheet}
-use Rattle.ends.specs.Ends.{Answer, found, none, refused, number, endsRefusal, Runs, Finds, Lacks, Outcome}
+use Rattle.windows.specs.Inequalities.{Runs}
+use Rattle.ends.specs.Ends.{Answer, found, none, refused, number, endsRefusal, Finds, Lacks, Outcome}
 
 -- The two answers agree: the same number, and the same ends or the same refusal. Which circuits, and so their arc counts, is left open.
 abbrev pub Agree : Answer → Answer → Type 0

@@ -9,7 +9,7 @@ use lib.ListN.{length, drop}
 use Rattle.theory.specs.Arcs.{Arc}
 use Rattle.theory.specs.Ends.{High, open-end, up-to, Range, Never, LowShown, HighShown, NoneShown}
 use Rattle.tables.specs.Sheets.{Sheet, unless, refusal, otherwise}
-use Rattle.windows.specs.Inequalities.{Times, Solves}
+use Rattle.windows.specs.Inequalities.{Runs}
 use Rattle.windows.specs.Arcs.{nodes, arcs}
 use Rattle.windows.specs.Circuits.{Step, numbers, stepArc, CircuitOf}
 
@@ -33,10 +33,6 @@ abbrev pub endsRefusal : Sheet → List ℕ → List ℕ → ℕ
 endsRefusal s first second = otherwise (refusal s) (unless (roomy s first second) 9 0)
 
 module _ (s : Sheet) where
-  -- A cycle time works: the published inequalities have a periodic solution there.
-  abbrev pub Runs : ℕ → ℕ → Type 0
-  Runs p q = (x : Times) × Solves s p q x
-
   -- the buffer holds the arcs of a circuit, or of none, and "only the arcs' places are written"
   pub record Holds (before : List ℕ) (count : ℕ) (after : List ℕ) : Type 0 where
     pub steps : List Step
@@ -50,7 +46,7 @@ module _ (s : Sheet) where
 
   -- The ends and the circuits that show them.
   pub record Finds (first₀ second₀ : List ℕ) (top bottom : ℕ) (high : High) (count₁ count₂ : ℕ) (first second : List ℕ) : Type 0 where
-    pub range : Range Runs top bottom high
+    pub range : Range (Runs s) top bottom high
     pub bottom-small : bottom ≤ s .n
     pub high-small : (c d : ℕ) → high ≡ up-to c d → d ≤ s .n
     pub first-holds : Holds first₀ count₁ first
@@ -60,7 +56,7 @@ module _ (s : Sheet) where
 
   -- "None", and the one circuit or the two that show it.
   pub record Lacks (first₀ second₀ : List ℕ) (count₁ count₂ : ℕ) (first second : List ℕ) : Type 0 where
-    pub never : Never Runs
+    pub never : Never (Runs s)
     pub first-holds : Holds first₀ count₁ first
     pub second-holds : Holds second₀ count₂ second
     pub none-shown : NoneShown (arcs s) (arcsIn first-holds) (arcsIn second-holds)

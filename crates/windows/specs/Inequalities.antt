@@ -35,3 +35,7 @@ module _ (s : Sheet) where
   -- "every time is at least 0"
   abbrev pub FromZero : Times → Type 0
   FromZero x = (h i : ℕ) → 1 ≤ h → Event s i → pos 0 ≤ℤ x h i
+
+  -- The cycle time p/q works: there is a periodic solution.
+  abbrev pub Runs : ℕ → ℕ → Type 0
+  Runs p q = (x : Times) × Solves p q x
