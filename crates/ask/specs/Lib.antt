@@ -1,1 +1,3 @@
 pub mod Ask
+pub mod Ways
+pub mod Answers

@@ -1,3 +1,384 @@
 // Ask: does the cycle time p/q work for a sheet in memory?
 // This crate knows the earliest plan with its count of rounds, and the circuit that shows there is none; it knows no file.
 // It renders document 01's "Rounds", "Circuits" and the line on Ask in "Numbers a call can answer".
+ghost use mathlib.Core.Path.{_≡_};
+ghost use mathlib.Core.List.{[], _∷_};
+ghost use Prim.Native.Nat.{ℕ, _+_, _-_, _*_, _≤_, _<_};
+ghost use lib.ListN.{length, getD, drop};
+ghost use lib.Seq.{sets};
+ghost use Rattle.tables.specs.Sheets.{sheet};
+ghost use Rattle.ask.specs.Ways.{departureOf, Names, Ready, Led, Found, Least, quads, part, Turned, Traced, Filled};
+ghost use mathlib.Core.Bool.{_&&_};
+ghost use lib.Dec.{leb};
+ghost use Rattle.layout.specs.Records.{lists, Room};
+ghost use Rattle.ask.specs.Ask.{timed, askRefusal, Outcome};
+ghost use Rattle.ask.specs.Answers.{answer, Ends, Finishes, Settles};
+
+// The answer: the rounds of an acceptance, the arc count of a refutation, or the number of a refusal.
+pub enum Asked {
+    Accepted { rounds: u64 },
+    Refuted { arcs: u64 },
+    Refused { number: u8 },
+}
+
+// Records for each position: a mark is one more than position·4608 + record, the position counted from 0.
+const RECORDS: usize = 4608;
+
+// The node that the marked arc leaves.
+fn departure(kind: &[u8], to: &[u8], from: &[u8], n: usize, positions: usize, mark: u32) -> usize
+    requires { ⌜ Names (now kind) (now to) (now from) n positions mark ⌝ }
+    ensures { λ r. ⌜ r ≡ departureOf (now (kind .entry)) (now (to .entry)) (now (from .entry)) n positions mark ⌝ }
+{
+    let number = mark as usize - 1;
+    let k = number % RECORDS;
+    let at = rounds::stand_at(number / RECORDS, n, positions, 0);
+    let arc = layout::edge_of(kind[k], to[k], from[k], 0, 0, at.here, at.next, 0);
+    arc.departure
+}
+
+// A part of a path that is closed: the levels from low on, below high.
+pub struct Stretch {
+    pub low: usize,
+    pub high: usize,
+}
+
+// Goes back from the node v, which the last round raised, by the arc that each mark names, one row at a time, until a node is met again.
+fn back(
+    kind: &[u8],
+    to: &[u8],
+    from: &[u8],
+    n: usize,
+    positions: usize,
+    marks: &[u32],
+    nodes: usize,
+    v: usize,
+    path: &mut [u32],
+    node: &mut [u8],
+    seen: &mut [u8],
+) -> Stretch
+    requires { ⌜ Ready (now kind) (now to) (now from) (now marks) n positions nodes v (now path) (now node) (now seen) ⌝ }
+    ensures { λ r. ⌜ Found (departureOf (now (kind .entry)) (now (to .entry)) (now (from .entry)) n positions) (now (marks .entry)) nodes v (now (path .exit)) (now (node .exit)) (r .low) (r .high) ⌝ }
+{
+    node[nodes] = v as u8;
+    let mut r = nodes;
+    let mut u = v;
+    while seen[u] == 0 {
+        seen[u] = (r + 1) as u8;
+        r -= 1;
+        let mark = marks[r * 192 + u];
+        path[r] = mark;
+        u = departure(kind, to, from, n, positions, mark);
+        node[r] = u as u8;
+    }
+    let high = seen[u] as usize - 1;
+    Stretch { low: r, high: high }
+}
+
+// The place of the smallest node from `low` on, below `high`.
+fn least(node: &[u8], low: usize, high: usize) -> usize
+    requires { ⌜ (low < high) × (high ≤ length (now node)) ⌝ }
+    ensures { λ r. ⌜ Least (now (node .entry)) low high r ⌝ }
+{
+    let mut p = low;
+    let mut k = low + 1;
+    while k < high {
+        if node[k] < node[p] {
+            p = k;
+        }
+        k += 1;
+    }
+    p
+}
+
+// Writes the four numbers of an arc from a place of the circuit's buffer on.
+fn write_arc(circuit: &mut [u8], at: usize, kind: u8, position: u8, to: u8, from: u8)
+    requires { ⌜ at + 4 ≤ length (now circuit) ⌝ }
+    ensures { λ _. ⌜ now (circuit .exit) ≡ sets (now (circuit .entry)) at (kind ∷ position ∷ to ∷ from ∷ []) ⌝ }
+{
+    circuit[at] = kind;
+    circuit[at + 1] = position;
+    circuit[at + 2] = to;
+    circuit[at + 3] = from;
+}
+
+// Writes the arcs that m marks of the path name, from `a` on, as arcs of the circuit from `at` on.
+fn write(
+    kind: &[u8],
+    to: &[u8],
+    from: &[u8],
+    n: usize,
+    positions: usize,
+    path: &[u32],
+    a: usize,
+    m: usize,
+    circuit: &mut [u8],
+    at: usize,
+)
+    requires { ⌜ (a + m ≤ length (now path)) × ((at + m) * 4 ≤ length (now circuit)) × (at + m ≤ 192) × ((i : ℕ) → a ≤ i → i < a + m → Names (now kind) (now to) (now from) n positions (getD (now path) i 0)) ⌝ }
+    ensures { λ _. ⌜ now (circuit .exit) ≡ sets (now (circuit .entry)) (at * 4) (quads (now (kind .entry)) (now (to .entry)) (now (from .entry)) (part (now (path .entry)) a m)) ⌝ }
+{
+    let mut j: usize = 0;
+    while j < m {
+        let number = path[a + j] as usize - 1;
+        let k = number % RECORDS;
+        let position = (number / RECORDS + 1) as u8;
+        write_arc(circuit, (at + j) * 4, kind[k], position, to[k], from[k]);
+        j += 1;
+    }
+}
+
+// Writes the closed stretch of a path as a circuit, beginning with the arc that leaves the smallest node.
+fn turn(
+    kind: &[u8],
+    to: &[u8],
+    from: &[u8],
+    n: usize,
+    positions: usize,
+    path: &[u32],
+    node: &[u8],
+    low: usize,
+    high: usize,
+    circuit: &mut [u8],
+)
+    requires { ⌜ (low < high) × (high ≤ 192) × (high ≤ length (now path)) × (high ≤ length (now node)) × ((high - low) * 4 ≤ length (now circuit)) × ((i : ℕ) → low ≤ i → i < high → Names (now kind) (now to) (now from) n positions (getD (now path) i 0)) ⌝ }
+    ensures { λ _. ⌜ Turned (now (kind .entry)) (now (to .entry)) (now (from .entry)) (now (path .entry)) (now (node .entry)) low high (now (circuit .entry)) (now (circuit .exit)) ⌝ }
+{
+    let p = least(node, low, high);
+    write(kind, to, from, n, positions, path, p, high - p, circuit, 0);
+    write(
+        kind,
+        to,
+        from,
+        n,
+        positions,
+        path,
+        low,
+        p - low,
+        circuit,
+        high - p,
+    );
+}
+
+// Writes a circuit from the marks of the rounds into the buffer, and gives the count of its arcs.
+fn refute(
+    kind: &[u8],
+    to: &[u8],
+    from: &[u8],
+    n: usize,
+    positions: usize,
+    marks: &[u32],
+    nodes: usize,
+    v: usize,
+    circuit: &mut [u8],
+) -> usize
+    requires { ⌜ Led (now kind) (now to) (now from) (now marks) n positions nodes v × (nodes * 4 ≤ length (now circuit)) ⌝ }
+    ensures { λ r. ⌜ Traced (now (kind .entry)) (now (to .entry)) (now (from .entry)) (now (marks .entry)) n positions nodes v (now (circuit .entry)) (now (circuit .exit)) r ⌝ }
+{
+    let mut path = [0u32; 192];
+    let mut node = [0u8; 193];
+    let mut seen = [0u8; 192];
+    let met = back(
+        kind,
+        to,
+        from,
+        n,
+        positions,
+        marks,
+        nodes,
+        v,
+        &mut path,
+        &mut node,
+        &mut seen,
+    );
+    let low = met.low;
+    let high = met.high;
+    turn(
+        kind,
+        to,
+        from,
+        n,
+        positions,
+        &path,
+        &node,
+        low,
+        high,
+        circuit,
+    );
+    high - low
+}
+
+// Writes the first `count` of the times into the plan's buffer.
+fn write_plan(times: &[u64], count: usize, plan: &mut [u64])
+    requires { ⌜ (count ≤ length (now times)) × (count ≤ length (now plan)) ⌝ }
+    ensures { λ _. ⌜ Filled (now (times .entry)) count (now (plan .entry)) (now (plan .exit)) ⌝ }
+{
+    let mut v: usize = 0;
+    while v < count {
+        plan[v] = times[v];
+        v += 1;
+    }
+}
+
+const MOST_Q: u64 = 1000;
+
+const MOST_P: u64 = 1000000000;
+
+// Writes what the rounds came to: their table as the plan, or the circuit that their marks lead to.
+fn finish(
+    kind: &[u8],
+    to: &[u8],
+    from: &[u8],
+    n: usize,
+    positions: usize,
+    marks: &[u32],
+    ended: rounds::Ended,
+    plan: &mut [u64],
+    circuit: &mut [u8],
+) -> Asked
+    requires { ⌜ Ends (now kind) (now to) (now from) (now marks) n positions (ended .rounds) (ended .node) × (positions * n ≤ 192) × (positions * n ≤ length (now plan)) × (positions * n * 4 ≤ length (now circuit)) ⌝ }
+    ensures { λ r. ⌜ Finishes (now (kind .entry)) (now (to .entry)) (now (from .entry)) (now (marks .entry)) n positions (ended .rounds) (ended .node) (ended .times) (now (plan .entry)) (now (circuit .entry)) (answer r) (now (plan .exit)) (now (circuit .exit)) ⌝ }
+{
+    let nodes = positions * n;
+    let rounds = ended.rounds;
+    let node = ended.node;
+    if rounds < nodes {
+        let times = ended.times;
+        write_plan(&times, nodes, plan);
+        return Asked::Accepted {
+            rounds: rounds as u64,
+        };
+    }
+    let arcs = refute(kind, to, from, n, positions, marks, nodes, node, circuit);
+    Asked::Refuted { arcs: arcs as u64 }
+}
+
+// Decides: lays out the list, runs the rounds over it, and writes the plan or the circuit.
+fn solve(
+    n: usize,
+    m: usize,
+    positions: usize,
+    tables: &[i32],
+    schedule: &[u8],
+    p: u64,
+    q: u64,
+    plan: &mut [u64],
+    circuit: &mut [u8],
+    kind: &mut [u8],
+    to: &mut [u8],
+    from: &mut [u8],
+    up: &mut [u64],
+    down: &mut [u64],
+    start: &mut [usize],
+    marks: &mut [u32],
+) -> Asked
+    requires { ⌜ askRefusal (sheet n m positions (now tables) (now schedule)) p q (now plan) (now circuit) ≡ 0 ⌝ }
+    requires { ⌜ Room (lists (now kind) (now to) (now from) (now up) (now down)) 4608 × (length (now start) ≡ 9) × (length (now marks) ≡ 36864) ⌝ }
+    ensures { λ r. ⌜ Settles (sheet n m positions (now (tables .entry)) (now (schedule .entry))) p q (now (plan .entry)) (now (circuit .entry)) (answer r) (now (plan .exit)) (now (circuit .exit)) ⌝ }
+{
+    layout::lay_out(tables, q, n, m, kind, to, from, up, down, start);
+    let ended = rounds::run(
+        kind,
+        to,
+        from,
+        up,
+        down,
+        start,
+        schedule,
+        n,
+        positions,
+        p,
+        marks,
+    );
+    finish(kind, to, from, n, positions, marks, ended, plan, circuit)
+}
+
+// Makes the room of the work's own: the list of records, the modes' starts and a row of marks for each round.
+fn decide(
+    n: usize,
+    m: usize,
+    positions: usize,
+    tables: &[i32],
+    schedule: &[u8],
+    p: u64,
+    q: u64,
+    plan: &mut [u64],
+    circuit: &mut [u8],
+) -> Asked
+    requires { ⌜ askRefusal (sheet n m positions (now tables) (now schedule)) p q (now plan) (now circuit) ≡ 0 ⌝ }
+    ensures { λ r. ⌜ Settles (sheet n m positions (now (tables .entry)) (now (schedule .entry))) p q (now (plan .entry)) (now (circuit .entry)) (answer r) (now (plan .exit)) (now (circuit .exit)) ⌝ }
+{
+    let mut kind = [0u8; 4608];
+    let mut to = [0u8; 4608];
+    let mut from = [0u8; 4608];
+    let mut up = [0u64; 4608];
+    let mut down = [0u64; 4608];
+    let mut start = [0usize; 9];
+    let mut marks = [0u32; 36864];
+    solve(
+        n,
+        m,
+        positions,
+        tables,
+        schedule,
+        p,
+        q,
+        plan,
+        circuit,
+        &mut kind,
+        &mut to,
+        &mut from,
+        &mut up,
+        &mut down,
+        &mut start,
+        &mut marks,
+    )
+}
+
+// Whether p and q lie within their limits.
+fn is_timed(p: u64, q: u64) -> bool
+    ensures { λ r. ⌜ r ≡ timed p q ⌝ }
+{
+    if q < 1 {
+        return false;
+    }
+    if MOST_Q < q {
+        return false;
+    }
+    p <= MOST_P
+}
+
+// Whether the buffers have N places for a plan and 4N for a circuit.
+fn is_roomy(nodes: usize, plan: usize, circuit: usize) -> bool
+    requires { ⌜ nodes ≤ 192 ⌝ }
+    ensures { λ r. ⌜ r ≡ (leb nodes plan && leb (4 * nodes) circuit) ⌝ }
+{
+    nodes <= plan && 4 * nodes <= circuit
+}
+
+// Does the cycle time p/q work? Accepted with the rounds, and the earliest plan in the first N places of `plan`; refuted with the arc
+// count, and a circuit with total above zero in the first places of `circuit`, four numbers an arc; or refused, by 4, 5, 6, 10 or 9.
+pub fn ask(
+    n: usize,
+    m: usize,
+    positions: usize,
+    tables: &[i32],
+    schedule: &[u8],
+    p: u64,
+    q: u64,
+    plan: &mut [u64],
+    circuit: &mut [u8],
+) -> Asked
+    ensures { λ r. ⌜ Outcome (sheet n m positions (now (tables .entry)) (now (schedule .entry))) p q (now (plan .entry)) (now (circuit .entry)) (answer r) (now (plan .exit)) (now (circuit .exit)) ⌝ }
+{
+    let refusal = tables::judge(n, m, positions, tables, schedule);
+    if refusal != 0 {
+        return Asked::Refused { number: refusal };
+    }
+    if !is_timed(p, q) {
+        return Asked::Refused { number: 10 };
+    }
+    if !is_roomy(positions * n, plan.len(), circuit.len()) {
+        return Asked::Refused { number: 9 };
+    }
+    decide(n, m, positions, tables, schedule, p, q, plan, circuit)
+}

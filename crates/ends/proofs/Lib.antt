@@ -6,3 +6,5 @@ pub mod Held
 pub mod Copies
 pub mod Climbing
 pub mod Searching
+pub mod Asking
+pub mod Stepping

@@ -3,8 +3,14 @@ use mathlib.Core.Path.{_≡_}
 use mathlib.Core.List.{List}
 use Prim.Native.Nat.{ℕ, _≤_, _<_}
 use lib.ListN.{length}
+use Rattle.theory.specs.Arcs.{Works}
 use Rattle.theory.specs.Ends.{Under}
 use Rattle.tables.specs.Sheets.{Sheet, refusal}
+use Rattle.windows.specs.Arcs.{arcs}
+use Rattle.ask.specs.declared.Asked.{Asked}
+use Rattle.ask.specs.declared.Asked.the-variants as asked
+use Rattle.ends.specs.declared.search.Step.{Step}
+use Rattle.ends.specs.declared.search.Step.the-variants as step
 use Rattle.ends.specs.Climbs.{Beats, Over, LowHeld, HighHeld, OneHeld, TwoHeld}
 use Rattle.ends.specs.declared.search.Stand.{Stand}
 use Rattle.ends.specs.declared.search.Rise.{Rise}
@@ -35,3 +41,31 @@ pub record Descending (s : Sheet) (at : Stand) (high found : List ℕ) (arcs : �
 -- to an earlier cycle time, with its circuit in `high`
 abbrev pub Falls : Sheet → Stand → List ℕ → ℕ → Stand → List ℕ → Type 0
 Falls s at high₀ arcs next high = HighHeld s high (next .top) (next .bottom) (next .arcs) × Under (next .top) (next .bottom) (at .top) (at .bottom) × (length high ≡ 768)
+
+-- an admitted sheet, a cycle time within Ask's limits, and room for a circuit
+pub record Ready (s : Sheet) (at : Stand) (found : List ℕ) : Type 0 where
+  pub admitted : refusal s ≡ 0
+  pub some : 1 ≤ at .bottom
+  pub few : at .bottom ≤ 1000
+  pub small : at .top ≤ 1000000000
+  pub room : length found ≡ 768
+
+-- what Ask then answers: it works, or the circuit in the buffer is above zero; and never a refusal
+abbrev pub Asks : Sheet → Stand → Asked → List ℕ → Type 0
+Asks s at (asked.Accepted rounds) found = Works (arcs s) (at .top) (at .bottom) × (length found ≡ 768)
+Asks s at (asked.Refuted count) found = Beats s (at .top) (at .bottom) found count × (length found ≡ 768)
+Asks s at (asked.Refused k) found = ⊥
+
+-- the climb stands at a cycle time, with its circuit in `low`
+pub record Stands (s : Sheet) (at : Stand) (low found : List ℕ) : Type 0 where
+  pub admitted : refusal s ≡ 0
+  pub held : LowHeld s low (at .top) (at .bottom) (at .arcs)
+  pub low-room : length low ≡ 768
+  pub found-room : length found ≡ 768
+
+-- it works here; or the climb goes on, later; or nothing works
+abbrev pub Stepped : Sheet → Stand → Step → List ℕ → List ℕ → Type 0
+Stepped s at step.Works low found = Works (arcs s) (at .top) (at .bottom) × Stands s at low found
+Stepped s at (step.On next) low found = Stands s next low found × Under (at .top) (at .bottom) (next .top) (next .bottom)
+Stepped s at (step.Alone count) low found = OneHeld s found count × (length found ≡ 768)
+Stepped s at (step.Both count) low found = TwoHeld s low (at .arcs) found count × (length low ≡ 768) × (length found ≡ 768)

@@ -4,9 +4,11 @@ use crate::limits::Climb;
 use crate::limits::next_high;
 use crate::limits::next_low;
 use crate::weights::weigh;
+use ask::Asked;
 ghost use mathlib.Core.Path.{_≡_};
+ghost use lib.ListN.{length};
 ghost use Rattle.tables.specs.Sheets.{sheet};
-ghost use Rattle.ends.specs.Searches.{Climbing, Rises, Descending, Falls};
+ghost use Rattle.ends.specs.Searches.{Climbing, Rises, Descending, Falls, Ready, Asks, Stands, Stepped};
 
 // Where the search stands: a cycle time, and the arc count of the circuit that led there.
 pub struct Stand {
@@ -71,5 +73,100 @@ pub fn descend_by(
         top: limit.top,
         bottom: limit.bottom,
         arcs,
+    }
+}
+
+// Room for the plan that Ask writes and the search does not need.
+fn plan_room() -> [u64; 192]
+    ensures { λ r. ⌜ length r ≡ 192 ⌝ }
+{
+    [0; 192]
+}
+
+// Asks at p/q. A refutation leaves its circuit at the front of the buffer.
+fn ask_at(
+    n: usize,
+    m: usize,
+    positions: usize,
+    tables: &[i32],
+    schedule: &[u8],
+    at: Stand,
+    found: &mut [u8],
+) -> Asked
+    requires { ⌜ Ready (sheet n m positions (now tables) (now schedule)) at (now found) ⌝ }
+    ensures { λ r. ⌜ Asks (sheet n m positions (now (tables .entry)) (now (schedule .entry))) at r (now (found .exit)) ⌝ }
+{
+    let mut plan = plan_room();
+    ask::ask(
+        n,
+        m,
+        positions,
+        tables,
+        schedule,
+        at.top,
+        at.bottom,
+        &mut plan,
+        found,
+    )
+}
+
+// A step of the climb: it works here, or the climb goes on, or nothing works.
+pub enum Step {
+    Works,
+    On(Stand),
+    Alone { arcs: usize },
+    Both { arcs: usize },
+}
+
+// The step that the circuit found decides.
+fn climb_on(
+    n: usize,
+    m: usize,
+    positions: usize,
+    tables: &[i32],
+    schedule: &[u8],
+    at: Stand,
+    low: &mut [u8],
+    found: &[u8],
+    arcs: usize,
+) -> Step
+    requires { ⌜ Climbing (sheet n m positions (now tables) (now schedule)) at (now low) (now found) arcs ⌝ }
+    ensures { λ r. ⌜ Stepped (sheet n m positions (now (tables .entry)) (now (schedule .entry))) at r (now (low .exit)) (now (found .entry)) ⌝ }
+{
+    match climb_by(n, m, positions, tables, schedule, at, low, found, arcs) {
+        Rise::On(next) => Step::On(next),
+        Rise::Alone => Step::Alone { arcs },
+        Rise::Both => Step::Both { arcs },
+    }
+}
+
+// One step of the climb. (Ask refuses nothing here.)
+fn climb_step(
+    n: usize,
+    m: usize,
+    positions: usize,
+    tables: &[i32],
+    schedule: &[u8],
+    at: Stand,
+    low: &mut [u8],
+    found: &mut [u8],
+) -> Step
+    requires { ⌜ Stands (sheet n m positions (now tables) (now schedule)) at (now low) (now found) ⌝ }
+    ensures { λ r. ⌜ Stepped (sheet n m positions (now (tables .entry)) (now (schedule .entry))) at r (now (low .exit)) (now (found .exit)) ⌝ }
+{
+    match ask_at(n, m, positions, tables, schedule, at, found) {
+        Asked::Accepted { rounds: _ } => Step::Works,
+        Asked::Refused { number: _ } => Step::Works,
+        Asked::Refuted { arcs } => climb_on(
+            n,
+            m,
+            positions,
+            tables,
+            schedule,
+            at,
+            low,
+            found,
+            arcs as usize,
+        ),
     }
 }

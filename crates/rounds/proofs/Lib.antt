@@ -1,3 +1,4 @@
 pub mod Folds
 pub mod Places
 pub mod Tables
+pub mod Sheets

@@ -188,6 +188,13 @@ pub struct Ended {
     pub times: [u64; 192],
 }
 
+// Table 0.
+fn zeros() -> [u64; 192]
+    ensures { λ r. ⌜ ((v : ℕ) → getD r v 0 ≡ 0) ⌝ }
+{
+    [0u64; 192]
+}
+
 // Runs rounds from table 0, which is all zeros, until one changes nothing, or N of them. Row r of the marks is that of round r + 1.
 pub fn run(
     kind: &[u8],
@@ -200,14 +207,13 @@ pub fn run(
     n: usize,
     positions: usize,
     p: u64,
-    zeros: [u64; 192],
     marks: &mut [u32],
 ) -> Ended
-    requires { ⌜ Limits n positions p × Parts (lists (now kind) (now to) (now from) (now up) (now down)) n (now start) (now schedule) positions × ((v : ℕ) → getD zeros v 0 ≡ 0) × (length (now marks) ≡ 36864) ⌝ }
+    requires { ⌜ Limits n positions p × Parts (lists (now kind) (now to) (now from) (now up) (now down)) n (now start) (now schedule) positions × (length (now marks) ≡ 36864) ⌝ }
     ensures { λ r. ⌜ Ran (walked (lists (now (kind .entry)) (now (to .entry)) (now (from .entry)) (now (up .entry)) (now (down .entry))) (now (start .entry)) (now (schedule .entry)) n positions p positions) (positions * n) (r .rounds) (r .node) (r .times) (now (marks .exit)) ⌝ }
 {
     let nodes = positions * n;
-    let mut cur = zeros;
+    let mut cur = zeros();
     let mut node: usize = 0;
     let mut r: usize = 0;
     while r < nodes {

@@ -42,7 +42,7 @@ getD-any (a ∷ l) zero d e h = refl
 getD-any (a ∷ l) (suc i) d e h = getD-any l i d e (omega arith)
 
 -- an admitted value that is a window is within the limit
-admits-limit : (v : ℤ) → admits v ≡ true → v ≢ noWindow → (up v ≤ 1000000) × (down v ≤ 1000000)
+pub admits-limit : (v : ℤ) → admits v ≡ true → v ≢ noWindow → (up v ≤ 1000000) × (down v ≤ 1000000)
 admits-limit (pos a) e some = (go (leb a 1000000) refl e, omega arith)
   where
     go : (b : Bool) → leb a 1000000 ≡ b → or b false ≡ true → a ≤ 1000000

@@ -16,6 +16,7 @@ use Rattle.rounds.proofs.run.Reads as reads
 use Rattle.rounds.proofs.run.Lts as lts
 use Rattle.rounds.proofs.differs.Reads as differs-reads
 use Rattle.rounds.proofs.round.Reads as round-reads
+use Rattle.rounds.proofs.zeros.Reads as zeros-reads
 
 abbrev Inv-loop : tie.InvT-loop
 Inv-loop kind to from up down start schedule n positions p marks₀ nodes cur₀ node₀ r₀ marks cur node r = (r ≤ positions * n) × (length cur ≡ 192) × (length marks ≡ 36864) × Running (walked (lists kind to from up down) start schedule n positions p positions) (positions * n) r node cur marks
@@ -24,7 +25,7 @@ abbrev μ-loop : tie.MeasureT-loop
 μ-loop kind to from up down start schedule n positions p marks₀ nodes cur₀ node₀ r₀ marks cur node r = nodes - r
 
 abbrev P : tie.At-loop Inv-loop μ-loop → tie.Start Inv-loop μ-loop
-P c = c .before .before .before .before .before .before .before .before .before
+P c = c .before .before .before .before .before .before .before .before .before .before
 
 abbrev A : tie.Start Inv-loop μ-loop → List Named
 A c = let a = c .args in walked (lists (a .kind .now) (a .to .now) (a .from .now) (a .up .now) (a .down .now)) (a .start .now) (a .schedule .now) (a .n) (a .positions) (a .p) (a .positions)
@@ -46,8 +47,11 @@ longs c = let l = c .before .before .before .before .before in let k = c .round 
 mul-nodes : tie.Need-mul-nodes Inv-loop μ-loop
 mul-nodes c = let s = c .before .before .before .before .before .before .before .before in omega (arith, few s)
 
+zeros-requires : tie.Need-zeros-requires Inv-loop μ-loop
+zeros-requires c κs = search needs
+
 loop-holds : tie.Need-loop-holds Inv-loop μ-loop
-loop-holds c = let s = c .before .before .before .before .before .before .before .before in (omega arith, search needs, s .pre .3, running-none (A s) (N s) 0 (s .args .zeros) (s .args .marks .now) (s .pre .2))
+loop-holds c = let s = c .before .before .before .before .before .before .before .before .before in (omega arith, search needs, s .pre .2, running-none (A s) (N s) 0 (c .zeros .result) (s .args .marks .now) (c .zeros .ensures))
 
 slice-aggregate-round : tie.Need-slice-aggregate-round Inv-loop μ-loop
 slice-aggregate-round c = search needs
@@ -110,6 +114,7 @@ run-spec =
     Inv-loop
     μ-loop
     mul-nodes
+    zeros-requires
     loop-holds
     slice-aggregate-round
     slice-aggregate-round-2

@@ -1,0 +1,49 @@
+-- What the rounds over a sheet's list came to, once it is written, is the outcome: the earliest plan, or a refutation.
+use mathlib.Core.Path.{_≡_, refl, sym, ap, subst, _∙_}
+use mathlib.Core.List.{List}
+use Prim.Native.Nat.{ℕ, suc, _+_, _-_, _*_, _≤_, _<_}
+use native.Mathlib.Omega.{arith}
+use lib.ListN.{length}
+use Rattle.tables.specs.Sheets.{Sheet}
+use Rattle.tables.proofs.Laws.{Admitted}
+use Rattle.windows.specs.Arcs.{nodes}
+use Rattle.layout.specs.Records.{Lists, Room, Modes}
+use Rattle.rounds.specs.Rounds.{Named, walked, Rose, Told, Ran}
+use Rattle.ask.specs.Ask as ask
+use Rattle.ask.specs.Ask.{Answer, Accepts, Shows, askRefusal, Outcome}
+use Rattle.ask.specs.Answers.{Ends, Finishes, Settles}
+use Rattle.ask.proofs.Tracing.{led}
+use Rattle.ask.proofs.Circuits.{shows}
+use Rattle.ask.proofs.Accepting.{accepts}
+
+module _ (s : Sheet) (ok : Admitted s) (p q : ℕ) (l : Lists) (start : List ℕ) (w : ℕ) (laid : Modes (s .tables) (s .n) q l start (s .m) w) (room : Room l 4608)
+    (rounds node : ℕ) (times marks : List ℕ) (ran : Ran (walked l start (s .schedule) (s .n) (s .positions) p (s .positions)) (nodes s) rounds node times marks) where
+  abbrev A : List Named
+  A = walked l start (s .schedule) (s .n) (s .positions) p (s .positions)
+
+  full : nodes s ≤ rounds → rounds ≡ nodes s
+  full h = omega (arith, ran .few)
+
+  told : nodes s ≤ rounds → (r u : ℕ) → r < nodes s → u < nodes s → Rose A r u → Told A marks r u
+  told h r u a b x = ran .told r u (omega arith) b x
+
+  -- the way back leads where all N rounds changed something
+  pub ends : length marks ≡ 36864 → Ends (l .kinds) (l .tos) (l .froms) marks (s .n) (s .positions) rounds node
+  ends long h = let e = ran .last (full h) in led s ok p q l start w laid room marks (nodes s) node (told h) refl (e .0) (e .1) long
+
+  -- THEOREM: what is written is the outcome
+  pub settles : (plan₀ circuit₀ : List ℕ) → nodes s * 4 ≤ length circuit₀ → (a : Answer) (plan circuit : List ℕ)
+      → Finishes (l .kinds) (l .tos) (l .froms) marks (s .n) (s .positions) rounds node times plan₀ circuit₀ a plan circuit → Settles s p q plan₀ circuit₀ a plan circuit
+  settles plan₀ circuit₀ long (ask.accepted k) plan circuit f =
+      rw (f .0, f .3) (accepts s ok p q l start w laid rounds node times marks ran (f .1) plan₀ circuit₀ plan (f .2))
+  settles plan₀ circuit₀ long (ask.refuted count) plan circuit f =
+      let e = ran .last (full (f .0)) in
+      let t = f .1 in
+      rw (t .counted, f .2) (shows s ok p q l start w laid room marks (nodes s) node (told (f .0)) refl (e .0) (e .1) (t .path) (t .node) (t .low) (t .high) (t .found) plan₀ circuit₀ circuit long (t .turned))
+  settles plan₀ circuit₀ long (ask.refused k) plan circuit f = absurd f
+
+-- where no refusal fits, that is the whole outcome
+pub outcome : (s : Sheet) (p q : ℕ) (plan₀ circuit₀ : List ℕ) → askRefusal s p q plan₀ circuit₀ ≡ 0 → (a : Answer) (plan circuit : List ℕ) → Settles s p q plan₀ circuit₀ a plan circuit → Outcome s p q plan₀ circuit₀ a plan circuit
+outcome s p q plan₀ circuit₀ e (ask.accepted k) plan circuit f = (e, f)
+outcome s p q plan₀ circuit₀ e (ask.refuted k) plan circuit f = (e, f)
+outcome s p q plan₀ circuit₀ e (ask.refused k) plan circuit f = absurd f

@@ -1,0 +1,65 @@
+-- The refusals in their order, and what a call that is not refused may rest on.
+use mathlib.Core.Path.{_≡_, refl, sym, ap, _∙_}
+use mathlib.Core.Logic.{_≢_}
+use mathlib.Core.Bool.{Bool, true, false, _&&_}
+use mathlib.Core.List.{List}
+use Prim.Native.Nat.{ℕ, zero, suc, _+_, _*_, _≤_, _<_}
+use native.Mathlib.Omega.{arith}
+use borrow.Author.Tests.{leb-true}
+use lib.Dec.{leb}
+use lib.ListN.{length}
+use Rattle.tables.specs.Sheets.{Sheet, within, unless, refusal, otherwise}
+use Rattle.tables.proofs.Laws.{both, within-is, Admitted, accepted}
+use Rattle.windows.specs.Arcs.{nodes}
+use Rattle.windows.proofs.Limits.{nodes-few}
+use Rattle.rounds.specs.Rounds.{Limits}
+use Rattle.ask.specs.Ask.{timed, roomy, askRefusal}
+
+passes : (a : ℕ) (b c : Bool) → otherwise a (unless b 10 (unless c 9 0)) ≡ 0 → (a ≡ 0) × (b ≡ true) × (c ≡ true)
+passes zero true true e = (refl, refl, refl)
+passes zero true false e = absurd (omega arith)
+passes zero false c e = absurd (omega arith)
+passes (suc a) b c e = absurd (omega arith)
+
+module _ (s : Sheet) (p q : ℕ) (plan circuit : List ℕ) where
+  -- no refusal fits
+  pub record Granted : Type 0 where
+    pub sheet-ok : Admitted s
+    pub q-small : q ≤ 1000
+    pub p-small : p ≤ 1000000000
+    pub plan-long : nodes s ≤ length plan
+    pub circuit-long : 4 * nodes s ≤ length circuit
+
+  pub granted : askRefusal s p q plan circuit ≡ 0 → Granted
+  granted e =
+      let a = passes (refusal s) (timed p q) (roomy s plan circuit) e in
+      let t = both (within 1000 q) (leb p 1000000000) (a .1) in
+      let r = both (leb (nodes s) (length plan)) (leb (4 * nodes s) (length circuit)) (a .2) in
+      record {
+        sheet-ok = accepted s (a .0);
+        q-small = within-is 1000 q (t .0) .1;
+        p-small = leb-true p 1000000000 (t .1);
+        plan-long = leb-true (nodes s) (length plan) (r .0);
+        circuit-long = leb-true (4 * nodes s) (length circuit) (r .1);
+      }
+
+  pub limits : Granted → Limits (s .n) (s .positions) p
+  limits g =
+      let z = g .sheet-ok .size in
+      record { some-events = z .some-events; few-events = z .few-events; some-positions = z .some-positions; few-positions = z .few-positions; p-small = g .p-small }
+
+  pub refused-sheet : (k : ℕ) → k ≡ refusal s → k ≢ 0 → askRefusal s p q plan circuit ≡ k
+  refused-sheet k e some = ap (λ (x : ℕ). otherwise x (unless (timed p q) 10 (unless (roomy s plan circuit) 9 0))) (sym e) ∙ go k some
+    where
+      go : (k : ℕ) → k ≢ 0 → otherwise k (unless (timed p q) 10 (unless (roomy s plan circuit) 9 0)) ≡ k
+      go zero some = absurd (some refl)
+      go (suc k) some = refl
+
+  pub refused-10 : 0 ≡ refusal s → timed p q ≡ false → askRefusal s p q plan circuit ≡ 10
+  refused-10 e t = rw (← e, t)
+
+  pub refused-9 : 0 ≡ refusal s → timed p q ≡ true → roomy s plan circuit ≡ false → askRefusal s p q plan circuit ≡ 9
+  refused-9 e t r = rw (← e, t, r)
+
+  pub refused-none : 0 ≡ refusal s → timed p q ≡ true → roomy s plan circuit ≡ true → askRefusal s p q plan circuit ≡ 0
+  refused-none e t r = rw (← e, t, r)

@@ -1,0 +1,82 @@
+-- Four numbers an arc, written one arc after the other.
+use mathlib.Core.Path.{_≡_, refl, sym, ap, ap₂, _∙_}
+use mathlib.Core.List.{List, [], _∷_, _++_}
+use Prim.Native.Nat.{ℕ, zero, suc, _+_, _-_, _*_, _≤_, _<_}
+use native.Mathlib.Omega.{arith}
+use native.Mathlib.Decide.{decLt}
+use lib.ListN.{length, getD, set, drop, length-append, length-set}
+use lib.Seq.{sets, sets-eq, getD-set-same, getD-set-other, drop-set-lt}
+use Rattle.rounds.specs.Rounds.{span}
+use Rattle.ask.specs.Ways.{quad, quads, part, Filled}
+
+pub sets-append : (xs ys l : List ℕ) (i k : ℕ) → i + length xs ≡ k → sets (sets l i xs) k ys ≡ sets l i (xs ++ ys)
+sets-append [] ys l i k e = let h : k ≡ i = omega arith in rw h
+sets-append (x ∷ xs) ys l i k e = sets-append xs ys (set l i x) (suc i) k (omega arith)
+
+pub four : (l : List ℕ) (i a b c d : ℕ) → set (set (set (set l i a) (i + 1) b) (i + 2) c) (i + 3) d ≡ sets l i (a ∷ b ∷ c ∷ d ∷ [])
+four l i a b c d =
+    let x : i + 1 ≡ suc i = omega arith in
+    let y : i + 2 ≡ suc (suc i) = omega arith in
+    let z : i + 3 ≡ suc (suc (suc i)) = omega arith in
+    rw (x, y, z)
+
+module _ (kinds tos froms : List ℕ) where
+  pub quads-append : (xs ys : List ℕ) → quads kinds tos froms (xs ++ ys) ≡ quads kinds tos froms xs ++ quads kinds tos froms ys
+  unfolding quads
+  quads-append [] ys = refl
+  quads-append (x ∷ xs) ys = ap (λ (l : List ℕ). quad kinds tos froms x ++ l) (quads-append xs ys)
+
+  pub quads-length : (xs : List ℕ) → length (quads kinds tos froms xs) ≡ length xs * 4
+  unfolding quads
+  quads-length [] = refl
+  quads-length (x ∷ xs) = omega (arith, quads-length xs)
+
+span-snoc : (f : ℕ → ℕ) (m a k : ℕ) → a + m ≡ k → span f a (suc m) ≡ span f a m ++ f k ∷ []
+unfolding span
+span-snoc f zero a k e = let h : a ≡ k = omega arith in rw h
+span-snoc f (suc m) a k e = ap (λ (l : List ℕ). f a ∷ l) (span-snoc f m (suc a) k (omega arith))
+
+span-length : (f : ℕ → ℕ) (m a : ℕ) → length (span f a m) ≡ m
+unfolding span
+span-length f zero a = refl
+span-length f (suc m) a = ap suc (span-length f m (suc a))
+
+module _ (kinds tos froms path : List ℕ) (a at : ℕ) (old : List ℕ) where
+  pub write-none : old ≡ sets old (at * 4) (quads kinds tos froms (part path a 0))
+  unfolding span quads
+  write-none = refl
+
+  -- one arc more, as the code counts
+  pub write-more : (j : ℕ) (out new : List ℕ) → out ≡ sets old (at * 4) (quads kinds tos froms (part path a j)) → new ≡ sets out ((at + j) * 4) (quad kinds tos froms (getD path (a + j) 0))
+      → new ≡ sets old (at * 4) (quads kinds tos froms (part path a (j + 1)))
+  unfolding quads
+  write-more j out new e h =
+      h
+      ∙ ap (λ (l : List ℕ). sets l ((at + j) * 4) (quad kinds tos froms (getD path (a + j) 0))) e
+      ∙ sets-append (quads kinds tos froms (part path a j)) (quad kinds tos froms (getD path (a + j) 0)) old (at * 4) ((at + j) * 4) (omega (arith, quads-length kinds tos froms (part path a j), span-length (λ i. getD path i 0) j a))
+      ∙ ap (sets old (at * 4)) (sym (quads-append kinds tos froms (part path a j) (getD path (a + j) 0 ∷ [])))
+      ∙ ap (λ (l : List ℕ). sets old (at * 4) (quads kinds tos froms l)) (sym (span-snoc (λ i. getD path i 0) j a (a + j) refl))
+      ∙ ap (λ (m : ℕ). sets old (at * 4) (quads kinds tos froms (part path a m))) (omega arith)
+
+-- ---- the plan's places: those below k are written, and all else of the first `count` and past them is as it was
+pub record Filling (times : List ℕ) (count k : ℕ) (old new : List ℕ) : Type 0 where
+  pub long : length new ≡ length old
+  pub inside : (v : ℕ) → v < k → getD new v 0 ≡ getD times v 0
+  pub rest : drop count new ≡ drop count old
+
+pub filling-none : (times : List ℕ) (count : ℕ) (old : List ℕ) → Filling times count 0 old old
+filling-none times count old = record { long = refl; inside = λ v h. absurd (omega arith); rest = refl }
+
+pub filling-more : (times : List ℕ) (count k : ℕ) (old new : List ℕ) → Filling times count k old new → k < count → k < length new → Filling times count (k + 1) old (set new k (getD times k 0))
+filling-more times count k old new f h l =
+    record {
+      long = length-set new k (getD times k 0) ∙ f .long;
+      inside = λ v i. elim (decLt v k) [
+        | yes j ↦ getD-set-other new k v (getD times k 0) 0 (λ e. omega arith) ∙ f .inside v j
+        | no j ↦ let e : v ≡ k = omega arith in rw e (getD-set-same new k (getD times k 0) 0 l)
+      ];
+      rest = drop-set-lt count new k (getD times k 0) h ∙ f .rest;
+    }
+
+pub filled : (times : List ℕ) (count k : ℕ) (old new : List ℕ) → Filling times count k old new → k ≡ count → Filled times count old new
+filled times count k old new f e = record { long = f .long; inside = λ v h. f .inside v (omega arith); rest = f .rest }

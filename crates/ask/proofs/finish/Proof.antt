@@ -1,0 +1,48 @@
+-- Each branch writes by its callee's contract.
+use mathlib.Core.Path.{_≡_, refl}
+use native.Mathlib.Omega.{arith}
+use lib.ListN.{length}
+use borrow.Author.Needs.{needs}
+use Rattle.ask.proofs.finish.Statement.{statement}
+use Rattle.ask.proofs.finish.Tie as tie
+use Rattle.ask.proofs.finish.Reads as reads
+use Rattle.ask.proofs.finish.Lts as lts
+use Rattle.ask.proofs.refute.Reads as refute-reads
+use Rattle.ask.proofs.write_plan.Reads as write-plan-reads
+
+mul-nodes : tie.Need-mul-nodes
+mul-nodes c = search needs
+
+slice-aggregate-write-plan : tie.Need-slice-aggregate-write-plan
+slice-aggregate-write-plan c = search needs
+
+write-plan-requires : tie.Need-write-plan-requires
+write-plan-requires c κs = let s = c .before .before .before .before .before .before .before .before .before .before in (omega (arith, s .pre .1, slice-aggregate-write-plan (c .before)), s .pre .2)
+
+same-length : tie.Need-same-length
+same-length c = search needs
+
+returns : tie.Need-returns
+returns c = search needs
+
+refute-requires : tie.Need-refute-requires
+refute-requires c κs = let s = c .before .before .before .before .before .before .before .before in (s .pre .0 (c .before .if1 .left), s .pre .3)
+
+same-length-2 : tie.Need-same-length-2
+same-length-2 c = search needs
+
+returns-2 : tie.Need-returns-2
+returns-2 c = search needs
+
+pub finish-spec : {M : Type 1} → statement M
+finish-spec =
+    tie.close
+    (tie.spec
+    mul-nodes
+    slice-aggregate-write-plan
+    write-plan-requires
+    same-length
+    returns
+    refute-requires
+    same-length-2
+    returns-2)
