@@ -8,3 +8,4 @@ pub mod Climbing
 pub mod Searching
 pub mod Asking
 pub mod Stepping
+pub mod Ending

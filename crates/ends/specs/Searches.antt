@@ -11,6 +11,12 @@ use Rattle.ask.specs.declared.Asked.{Asked}
 use Rattle.ask.specs.declared.Asked.the-variants as asked
 use Rattle.ends.specs.declared.search.Step.{Step}
 use Rattle.ends.specs.declared.search.Step.the-variants as step
+use Rattle.ends.specs.declared.search.Climbed.{Climbed}
+use Rattle.ends.specs.declared.search.Climbed.the-variants as climbed
+use Rattle.ends.specs.declared.search.Drop.{Drop}
+use Rattle.ends.specs.declared.search.Drop.the-variants as drop
+use Rattle.ends.specs.declared.search.Descended.{Descended}
+use Rattle.ends.specs.declared.search.Descended.the-variants as descended
 use Rattle.ends.specs.Climbs.{Beats, Over, LowHeld, HighHeld, OneHeld, TwoHeld}
 use Rattle.ends.specs.declared.search.Stand.{Stand}
 use Rattle.ends.specs.declared.search.Rise.{Rise}
@@ -69,3 +75,53 @@ Stepped s at step.Works low found = Works (arcs s) (at .top) (at .bottom) × Sta
 Stepped s at (step.On next) low found = Stands s next low found × Under (at .top) (at .bottom) (next .top) (next .bottom)
 Stepped s at (step.Alone count) low found = OneHeld s found count × (length found ≡ 768)
 Stepped s at (step.Both count) low found = TwoHeld s low (at .arcs) found count × (length low ≡ 768) × (length found ≡ 768)
+
+-- before the climb: an admitted sheet and two buffers
+pub record Fresh (s : Sheet) (low found : List ℕ) : Type 0 where
+  pub admitted : refusal s ≡ 0
+  pub low-room : length low ≡ 768
+  pub found-room : length found ≡ 768
+
+-- after it
+abbrev pub Climbs : Sheet → Climbed → List ℕ → List ℕ → Type 0
+Climbs s (climbed.Low at) low found = Works (arcs s) (at .top) (at .bottom) × Stands s at low found
+Climbs s (climbed.Alone count) low found = OneHeld s found count × (length found ≡ 768)
+Climbs s (climbed.Both count₁ count₂) low found = TwoHeld s low count₁ found count₂ × (length low ≡ 768) × (length found ≡ 768)
+
+-- something works at or below where the descent stands, and Ask may be asked there
+pub record Hangs (s : Sheet) (at : Stand) (high found : List ℕ) : Type 0 where
+  pub ready : Ready s at found
+  pub over : Over s (at .top) (at .bottom)
+  pub high-room : length high ≡ 768
+
+-- it works here; or the descent goes on, earlier
+abbrev pub Dropped : Sheet → Stand → List ℕ → Drop → List ℕ → List ℕ → Type 0
+Dropped s at high₀ drop.Works high found = Works (arcs s) (at .top) (at .bottom) × (high ≡ high₀) × (length found ≡ 768)
+Dropped s at high₀ (drop.On next) high found =
+    HighHeld s high (next .top) (next .bottom) (next .arcs) × Under (next .top) (next .bottom) (at .top) (at .bottom) × (length high ≡ 768) × (length found ≡ 768)
+
+-- the descent stands at a circuit's limit
+pub record HighStands (s : Sheet) (at : Stand) (high found : List ℕ) : Type 0 where
+  pub hangs : Hangs s at high found
+  pub held : HighHeld s high (at .top) (at .bottom) (at .arcs)
+
+-- and rests where it works
+pub record Rests (s : Sheet) (at : Stand) (high found : List ℕ) : Type 0 where
+  pub works : Works (arcs s) (at .top) (at .bottom)
+  pub held : HighHeld s high (at .top) (at .bottom) (at .arcs)
+  pub high-room : length high ≡ 768
+  pub found-room : length found ≡ 768
+
+-- before the descent: what works is known, and small
+pub record Overhead (s : Sheet) (low : Stand) (high found : List ℕ) : Type 0 where
+  pub admitted : refusal s ≡ 0
+  pub positive : 0 < low .bottom
+  pub small : low .top ≤ 192000000
+  pub works : Works (arcs s) (low .top) (low .bottom)
+  pub high-room : length high ≡ 768
+  pub found-room : length found ≡ 768
+
+-- after it: 192,000,001 works, which is above every limit, or the highest cycle time is found
+abbrev pub Descends : Sheet → Descended → List ℕ → List ℕ → Type 0
+Descends s descended.Open high found = Works (arcs s) 192000001 1
+Descends s (descended.High at) high found = Rests s at high found

@@ -8,7 +8,10 @@ use ask::Asked;
 ghost use mathlib.Core.Path.{_≡_};
 ghost use lib.ListN.{length};
 ghost use Rattle.tables.specs.Sheets.{sheet};
-ghost use Rattle.ends.specs.Searches.{Climbing, Rises, Descending, Falls, Ready, Asks, Stands, Stepped};
+ghost use Rattle.ends.specs.Searches.{Climbing, Rises, Descending, Falls, Ready, Asks, Stands, Stepped, Fresh, Climbs, Hangs, Dropped, HighStands, Rests, Overhead, Descends};
+
+// A cycle time above every limit: a circuit has at most 192 arcs, of at most 1,000,000 each.
+const ABOVE: u64 = 192000001;
 
 // Where the search stands: a cycle time, and the arc count of the circuit that led there.
 pub struct Stand {
@@ -168,5 +171,136 @@ fn climb_step(
             found,
             arcs as usize,
         ),
+    }
+}
+
+// What the climb comes to: the lowest cycle time with its circuit, or nothing works, as one circuit shows or two.
+pub enum Climbed {
+    Low(Stand),
+    Alone { arcs: usize },
+    Both { low: usize, arcs: usize },
+}
+
+// The climb from 0/1: every circuit above zero names a later cycle time, so that it ends.
+pub fn climb(
+    n: usize,
+    m: usize,
+    positions: usize,
+    tables: &[i32],
+    schedule: &[u8],
+    low: &mut [u8],
+    found: &mut [u8],
+) -> Climbed
+    requires { ⌜ Fresh (sheet n m positions (now tables) (now schedule)) (now low) (now found) ⌝ }
+    ensures { λ r. ⌜ Climbs (sheet n m positions (now (tables .entry)) (now (schedule .entry))) r (now (low .exit)) (now (found .exit)) ⌝ }
+{
+    let mut at = Stand {
+        top: 0,
+        bottom: 1,
+        arcs: 0,
+    };
+    loop {
+        match climb_step(n, m, positions, tables, schedule, at, low, found) {
+            Step::On(next) => {
+                at = next;
+            }
+            Step::Works => {
+                return Climbed::Low(at);
+            }
+            Step::Alone { arcs } => {
+                return Climbed::Alone { arcs };
+            }
+            Step::Both { arcs } => {
+                return Climbed::Both {
+                    low: at.arcs,
+                    arcs,
+                };
+            }
+        }
+    }
+}
+
+// A step of the descent: it works here, or on to an earlier cycle time.
+pub enum Drop {
+    Works,
+    On(Stand),
+}
+
+// One step of the descent. (Ask refuses nothing here.)
+fn descend_step(
+    n: usize,
+    m: usize,
+    positions: usize,
+    tables: &[i32],
+    schedule: &[u8],
+    at: Stand,
+    high: &mut [u8],
+    found: &mut [u8],
+) -> Drop
+    requires { ⌜ Hangs (sheet n m positions (now tables) (now schedule)) at (now high) (now found) ⌝ }
+    ensures { λ r. ⌜ Dropped (sheet n m positions (now (tables .entry)) (now (schedule .entry))) at (now (high .entry)) r (now (high .exit)) (now (found .exit)) ⌝ }
+{
+    match ask_at(n, m, positions, tables, schedule, at, found) {
+        Asked::Accepted { rounds: _ } => Drop::Works,
+        Asked::Refused { number: _ } => Drop::Works,
+        Asked::Refuted { arcs } => Drop::On(descend_by(n, m, positions, tables, schedule, at, high, found, arcs as usize)),
+    }
+}
+
+// The descent from a cycle time that a circuit named: every circuit above zero names an earlier one, so that it ends.
+fn descend_from(
+    n: usize,
+    m: usize,
+    positions: usize,
+    tables: &[i32],
+    schedule: &[u8],
+    from: Stand,
+    high: &mut [u8],
+    found: &mut [u8],
+) -> Stand
+    requires { ⌜ HighStands (sheet n m positions (now tables) (now schedule)) from (now high) (now found) ⌝ }
+    ensures { λ r. ⌜ Rests (sheet n m positions (now (tables .entry)) (now (schedule .entry))) r (now (high .exit)) (now (found .exit)) ⌝ }
+{
+    let mut at = from;
+    loop {
+        match descend_step(n, m, positions, tables, schedule, at, high, found) {
+            Drop::On(next) => {
+                at = next;
+            }
+            Drop::Works => {
+                return at;
+            }
+        }
+    }
+}
+
+// What the descent comes to: no highest cycle time, or it with its circuit.
+pub enum Descended {
+    Open,
+    High(Stand),
+}
+
+// The descent from above every limit.
+pub fn descend(
+    n: usize,
+    m: usize,
+    positions: usize,
+    tables: &[i32],
+    schedule: &[u8],
+    low: Stand,
+    high: &mut [u8],
+    found: &mut [u8],
+) -> Descended
+    requires { ⌜ Overhead (sheet n m positions (now tables) (now schedule)) low (now high) (now found) ⌝ }
+    ensures { λ r. ⌜ Descends (sheet n m positions (now (tables .entry)) (now (schedule .entry))) r (now (high .exit)) (now (found .exit)) ⌝ }
+{
+    let above = Stand {
+        top: ABOVE,
+        bottom: 1,
+        arcs: 0,
+    };
+    match descend_step(n, m, positions, tables, schedule, above, high, found) {
+        Drop::Works => Descended::Open,
+        Drop::On(next) => Descended::High(descend_from(n, m, positions, tables, schedule, next, high, found)),
     }
 }

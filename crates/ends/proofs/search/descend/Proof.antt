@@ -1,0 +1,62 @@
+use borrow.Author.Needs.{needs}
+use Rattle.ends.proofs.search.descend.Statement.{statement}
+use Rattle.ends.proofs.search.descend.Tie as tie
+use Rattle.ends.proofs.search.descend.Reads as reads
+use Rattle.ends.proofs.search.descend.Lts as lts
+use Rattle.ends.proofs.search.descend_from.Reads as descend-from-reads
+use Rattle.ends.proofs.search.descend_step.Reads as descend-step-reads
+
+-- src/search.rt:302:11
+descend-step-requires : tie.Need-descend-step-requires
+descend-step-requires c κs = ?
+
+-- src/search.rt:303:24
+enum-told : tie.Need-enum-told
+enum-told c = search needs
+
+-- src/search.rt:304:18
+enum-known-next : tie.Need-enum-known-next
+enum-known-next c = search needs
+
+-- src/search.rt:304:43
+descend-from-requires : tie.Need-descend-from-requires
+descend-from-requires c κs = ?
+
+-- src/search.rt:284:1
+same-length : tie.Need-same-length
+same-length c = search needs
+
+-- src/search.rt:284:1
+same-length-2 : tie.Need-same-length-2
+same-length-2 c = search needs
+
+-- src/search.rt:284:1
+returns : tie.Need-returns
+returns c = ?
+
+-- src/search.rt:284:1
+same-length-3 : tie.Need-same-length-3
+same-length-3 c = search needs
+
+-- src/search.rt:284:1
+same-length-4 : tie.Need-same-length-4
+same-length-4 c = search needs
+
+-- src/search.rt:284:1
+returns-2 : tie.Need-returns-2
+returns-2 c = search needs
+
+pub descend-spec : {M : Type 1} → statement M
+descend-spec =
+    tie.close
+    (tie.spec
+    descend-step-requires
+    enum-told
+    enum-known-next
+    descend-from-requires
+    same-length
+    same-length-2
+    returns
+    same-length-3
+    same-length-4
+    returns-2)
