@@ -50,11 +50,10 @@ toClimb s at = left-to-climb (nodes s * 1000000) (s .n) (at .top) (at .bottom)
 module _ (s : Sheet) (at : Stand) (r : Step) (low₀ found₀ low found : List ℕ) (h : Stands s at low₀ found₀) (stepped : Stepped s at r low found) where
   pub climb-next : (next : Stand) → r ≡ step.On next → Stands s next low found × (toClimb s next < toClimb s at)
   climb-next next e =
-      let o = subst (λ (x : Step). Stepped s at x low found) e stepped in
-      (
+      let o = subst (λ (x : Step). Stepped s at x low found) e stepped in (
         o .0,
         climb-less (nodes s) 1000000 (s .n) (arcs s) (sheet-laid s (accepted s (h .admitted))) (at .top) (at .bottom) (heldArcs s (h .held .held)) (next .top) (next .bottom)
-        (heldArcs s (o .0 .held .held)) (h .held .low) (o .0 .held .low) (o .1),
+            (heldArcs s (o .0 .held .held)) (h .held .low) (o .0 .held .low) (o .1),
       )
 
   pub climbed-low : r ≡ step.Works → Climbs s (climbed.Low at) low found
@@ -121,11 +120,10 @@ module _ (s : Sheet) (at : Stand) (high₀ found₀ : List ℕ) (h : HighStands 
   pub descend-next : (next : Stand) → r ≡ drop.On next → HighStands s next high found × (toDescend s next < toDescend s at)
   descend-next next e =
       let n = drop-next s at high₀ found₀ (h .hangs) r high found dropped next e in
-      let o = h .hangs .over in
-      (
+      let o = h .hangs .over in (
         n .0,
         descend-less (nodes s) 1000000 (s .n) (arcs s) (sheet-laid s (accepted s (h .hangs .ready .admitted))) (o .top) (o .bottom) (o .positive) (o .works) (at .top) (at .bottom)
-        (heldArcs s (h .held .held)) (next .top) (next .bottom) (heldArcs s (n .0 .held .held)) (h .held .top-is) (n .0 .held .top-is) (n .1),
+            (heldArcs s (h .held .held)) (next .top) (next .bottom) (heldArcs s (n .0 .held .held)) (h .held .top-is) (n .0 .held .top-is) (n .1),
       )
 
   pub descend-rests : r ≡ drop.Works → Rests s at high found

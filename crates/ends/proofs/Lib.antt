@@ -9,3 +9,4 @@ pub mod Searching
 pub mod Asking
 pub mod Stepping
 pub mod Ending
+pub mod Finishing

@@ -3,3 +3,4 @@ pub mod Weights
 pub mod Limits
 pub mod Climbs
 pub mod Searches
+pub mod Answers

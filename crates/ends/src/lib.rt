@@ -5,3 +5,201 @@ mod circuits;
 mod limits;
 mod search;
 mod weights;
+
+use circuits::copy;
+use search::Climbed;
+use search::Descended;
+use search::Stand;
+ghost use mathlib.Core.Path.{_≡_};
+ghost use mathlib.Core.Bool.{_&&_};
+ghost use Prim.Native.Nat.{_*_, _≤_};
+ghost use lib.Dec.{leb};
+ghost use lib.ListN.{length};
+ghost use Rattle.tables.specs.Sheets.{sheet};
+ghost use Rattle.ends.specs.Ends.{endsRefusal, Outcome};
+ghost use Rattle.ends.specs.Answers.{answer, LowReady, FindReady};
+
+// The highest cycle time: none, or a fraction in lowest terms.
+pub enum High {
+    Open,
+    UpTo { top: u64, bottom: u64 },
+}
+
+// Low with its top and bottom, high, and the arc counts of the two circuits; or none, with the arc counts; or the number of the refusal.
+pub enum Ended {
+    Found {
+        top: u64,
+        bottom: u64,
+        high: High,
+        first: usize,
+        second: usize,
+    },
+    None {
+        first: usize,
+        second: usize,
+    },
+    Refused {
+        number: u8,
+    },
+}
+
+// Room for a circuit of 192 arcs.
+fn circuit_room() -> [u8; 768]
+    ensures { λ r. ⌜ length r ≡ 768 ⌝ }
+{
+    [0; 768]
+}
+
+// Where low is known: finds high, and hands both circuits over.
+fn finish_low(
+    n: usize,
+    m: usize,
+    positions: usize,
+    tables: &[i32],
+    schedule: &[u8],
+    at: Stand,
+    low: &[u8],
+    high: &mut [u8],
+    found: &mut [u8],
+    first: &mut [u8],
+    second: &mut [u8],
+) -> Ended
+    requires { ⌜ LowReady (sheet n m positions (now tables) (now schedule)) at (now low) (now high) (now found) (now first) (now second) ⌝ }
+    ensures { λ r. ⌜ Outcome (sheet n m positions (now (tables .entry)) (now (schedule .entry))) (now (first .entry)) (now (second .entry)) (answer r) (now (first .exit)) (now (second .exit)) ⌝ }
+{
+    match search::descend(n, m, positions, tables, schedule, at, high, found) {
+        Descended::Open => {
+            copy(low, 4 * at.arcs, first);
+            Ended::Found {
+                top: at.top,
+                bottom: at.bottom,
+                high: High::Open,
+                first: at.arcs,
+                second: 0,
+            }
+        }
+        Descended::High(top) => {
+            copy(low, 4 * at.arcs, first);
+            copy(high, 4 * top.arcs, second);
+            Ended::Found {
+                top: at.top,
+                bottom: at.bottom,
+                high: High::UpTo {
+                    top: top.top,
+                    bottom: top.bottom,
+                },
+                first: at.arcs,
+                second: top.arcs,
+            }
+        }
+    }
+}
+
+// Searches in room of the work's own, and hands the circuits over.
+fn find(
+    n: usize,
+    m: usize,
+    positions: usize,
+    tables: &[i32],
+    schedule: &[u8],
+    low: &mut [u8],
+    high: &mut [u8],
+    found: &mut [u8],
+    first: &mut [u8],
+    second: &mut [u8],
+) -> Ended
+    requires { ⌜ FindReady (sheet n m positions (now tables) (now schedule)) (now low) (now high) (now found) (now first) (now second) ⌝ }
+    ensures { λ r. ⌜ Outcome (sheet n m positions (now (tables .entry)) (now (schedule .entry))) (now (first .entry)) (now (second .entry)) (answer r) (now (first .exit)) (now (second .exit)) ⌝ }
+{
+    match search::climb(n, m, positions, tables, schedule, low, found) {
+        Climbed::Low(at) => finish_low(
+            n,
+            m,
+            positions,
+            tables,
+            schedule,
+            at,
+            low,
+            high,
+            found,
+            first,
+            second,
+        ),
+        Climbed::Alone { arcs } => {
+            copy(found, 4 * arcs, first);
+            Ended::None {
+                first: arcs,
+                second: 0,
+            }
+        }
+        Climbed::Both { low: before, arcs } => {
+            copy(low, 4 * before, first);
+            copy(found, 4 * arcs, second);
+            Ended::None {
+                first: before,
+                second: arcs,
+            }
+        }
+    }
+}
+
+// Makes the room of the work's own: three circuits.
+fn settle(
+    n: usize,
+    m: usize,
+    positions: usize,
+    tables: &[i32],
+    schedule: &[u8],
+    first: &mut [u8],
+    second: &mut [u8],
+) -> Ended
+    requires { ⌜ endsRefusal (sheet n m positions (now tables) (now schedule)) (now first) (now second) ≡ 0 ⌝ }
+    ensures { λ r. ⌜ Outcome (sheet n m positions (now (tables .entry)) (now (schedule .entry))) (now (first .entry)) (now (second .entry)) (answer r) (now (first .exit)) (now (second .exit)) ⌝ }
+{
+    let mut low = circuit_room();
+    let mut high = circuit_room();
+    let mut found = circuit_room();
+    find(
+        n,
+        m,
+        positions,
+        tables,
+        schedule,
+        &mut low,
+        &mut high,
+        &mut found,
+        first,
+        second,
+    )
+}
+
+// Whether both buffers have 4N places.
+fn is_roomy(nodes: usize, first: usize, second: usize) -> bool
+    requires { ⌜ nodes ≤ 192 ⌝ }
+    ensures { λ r. ⌜ r ≡ (leb (4 * nodes) first && leb (4 * nodes) second) ⌝ }
+{
+    4 * nodes <= first && 4 * nodes <= second
+}
+
+// The lowest and highest cycle time, with circuits that show them, four numbers an arc, in the first places of the two buffers; or none, with
+// the circuits that show it; or refused, by 4, 5, 6 or 9.
+pub fn ends(
+    n: usize,
+    m: usize,
+    positions: usize,
+    tables: &[i32],
+    schedule: &[u8],
+    first: &mut [u8],
+    second: &mut [u8],
+) -> Ended
+    ensures { λ r. ⌜ Outcome (sheet n m positions (now (tables .entry)) (now (schedule .entry))) (now (first .entry)) (now (second .entry)) (answer r) (now (first .exit)) (now (second .exit)) ⌝ }
+{
+    let refusal = tables::judge(n, m, positions, tables, schedule);
+    if refusal != 0 {
+        return Ended::Refused { number: refusal };
+    }
+    if !is_roomy(positions * n, first.len(), second.len()) {
+        return Ended::Refused { number: 9 };
+    }
+    settle(n, m, positions, tables, schedule, first, second)
+}

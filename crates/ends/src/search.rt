@@ -211,10 +211,7 @@ pub fn climb(
                 return Climbed::Alone { arcs };
             }
             Step::Both { arcs } => {
-                return Climbed::Both {
-                    low: at.arcs,
-                    arcs,
-                };
+                return Climbed::Both { low: at.arcs, arcs };
             }
         }
     }
@@ -243,7 +240,17 @@ fn descend_step(
     match ask_at(n, m, positions, tables, schedule, at, found) {
         Asked::Accepted { rounds: _ } => Drop::Works,
         Asked::Refused { number: _ } => Drop::Works,
-        Asked::Refuted { arcs } => Drop::On(descend_by(n, m, positions, tables, schedule, at, high, found, arcs as usize)),
+        Asked::Refuted { arcs } => Drop::On(descend_by(
+            n,
+            m,
+            positions,
+            tables,
+            schedule,
+            at,
+            high,
+            found,
+            arcs as usize,
+        )),
     }
 }
 
@@ -301,6 +308,15 @@ pub fn descend(
     };
     match descend_step(n, m, positions, tables, schedule, above, high, found) {
         Drop::Works => Descended::Open,
-        Drop::On(next) => Descended::High(descend_from(n, m, positions, tables, schedule, next, high, found)),
+        Drop::On(next) => Descended::High(descend_from(
+            n,
+            m,
+            positions,
+            tables,
+            schedule,
+            next,
+            high,
+            found,
+        )),
     }
 }

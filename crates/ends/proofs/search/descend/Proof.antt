@@ -1,3 +1,5 @@
+-- `search::descend` meets its contract: it starts above every limit.
+use Rattle.ends.proofs.Ending.{overhead-hangs, drop-next, drop-works}
 use borrow.Author.Needs.{needs}
 use Rattle.ends.proofs.search.descend.Statement.{statement}
 use Rattle.ends.proofs.search.descend.Tie as tie
@@ -8,7 +10,7 @@ use Rattle.ends.proofs.search.descend_step.Reads as descend-step-reads
 
 -- src/search.rt:302:11
 descend-step-requires : tie.Need-descend-step-requires
-descend-step-requires c κs = ?
+descend-step-requires c κs = overhead-hangs _ _ _ _ (c .before .before .before .before .before .pre)
 
 -- src/search.rt:303:24
 enum-told : tie.Need-enum-told
@@ -20,7 +22,7 @@ enum-known-next c = search needs
 
 -- src/search.rt:304:43
 descend-from-requires : tie.Need-descend-from-requires
-descend-from-requires c κs = ?
+descend-from-requires c κs = drop-next _ _ _ _ (overhead-hangs _ _ _ _ (c .before .before .before .before .before .before .before .before .before .before .before .before .before .before .before .pre)) _ _ _ (c .before .before .before .before .before .before .before .before .before .descend-step .ensures) _ (c .before .before .before .next .given .1) .0
 
 -- src/search.rt:284:1
 same-length : tie.Need-same-length
@@ -32,7 +34,7 @@ same-length-2 c = search needs
 
 -- src/search.rt:284:1
 returns : tie.Need-returns
-returns c = ?
+returns c = drop-works _ _ _ _ (overhead-hangs _ _ _ _ (c .before .before .before .before .before .before .before .before .before .before .before .before .pre)) _ _ _ (c .before .before .before .before .before .before .descend-step .ensures) (c .enum-told .given .1) .0
 
 -- src/search.rt:284:1
 same-length-3 : tie.Need-same-length-3
