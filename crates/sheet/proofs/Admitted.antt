@@ -1,21 +1,20 @@
 -- A sheet that was read is admitted in memory: none of 4, 5 and 6 is its refusal.
-use mathlib.Core.Path.{_≡_, refl, sym, ap, subst, _∙_}
-use mathlib.Core.Bool.{Bool, true, false, _&&_}
+use mathlib.Core.Path.{_≡_, refl, sym, ap, _∙_}
+use mathlib.Core.Bool.{Bool, true}
 use mathlib.Core.List.{List, [], _∷_, _++_}
-use Prim.Native.Nat.{ℕ, zero, suc, _+_, _*_, _≤_, _<_}
+use Prim.Native.Nat.{ℕ, zero, suc, _+_, _*_}
 use native.Mathlib.Omega.{arith}
-use borrow.Author.Tests.{lt-ltb, le-leb}
 use lib.IntN.{ℤ}
-use lib.Dec.{leb, ltb}
-use lib.ListN.{length, set, take, replicate}
+use lib.Dec.{ltb}
+use lib.ListN.{set, replicate}
 use lib.Seq.{take-all}
-use Rattle.tables.specs.Sheets.{Sheet, sheet, noWindow, inLimit, absent, or, admits, all, within, places, sized, scheduled, admitted, refusal}
-use Rattle.tables.proofs.Laws.{both, refused-not}
-use Rattle.sheet.specs.File.{Part, got, Window, modeAt, modesAt, put, laid, tablesOf, scheduleAt, sheetIn}
-use Rattle.sheet.proofs.Numbers.{after-got, tested-value, yes}
+use Rattle.tables.specs.Sheets.{Sheet, sheet, noWindow, inLimit, absent, or, admits, all, places, scheduled, admitted, refusal}
+use Rattle.tables.proofs.Laws.{both, Sizes, sized-yes, refused-not, yes}
+use Rattle.sheet.specs.File.{got, Window, modeAt, modesAt, put, laid, tablesOf, scheduleAt, sheetIn}
+use Rattle.sheet.proofs.Numbers.{after-got, tested-value}
 use Rattle.sheet.proofs.Walking.{then-got}
 use Rattle.sheet.proofs.Modes.{Good, good}
-use Rattle.sheet.proofs.Sheets.{Counted, Sheeted, sheeted, Tabled}
+use Rattle.sheet.proofs.Sheets.{sheeted}
 
 -- ---- a test of every element
 module _ {A : Type 0} (f : A → Bool) where
@@ -70,25 +69,24 @@ below-m file m (suc positions) at schedule next h =
     let v = tested-value _ _ _ _ _ (t .is) in
     rw e (yes (ltb (t .value) m) (all (λ t. ltb t m) (r .thing)) (v .1) (below-m file m positions (t .place) (r .thing) (r .place) (r .is)))
 
-within-yes : (most k : ℕ) → 1 ≤ k → k ≤ most → within most k ≡ true
-within-yes most k h l = yes (leb 1 k) (leb k most) (le-leb 1 k h) (le-leb k most l)
-
 pub read-admitted : (file : List ℕ) (s : Sheet) (next : ℕ) → sheetIn file ≡ got s next → refusal s ≡ 0
-unfolding sized scheduled admitted
+unfolding scheduled admitted
 read-admitted file s next h =
     let d = sheeted file s next h in
     let c = d .count in
     let t = d .tables in
-    let size : sized s ≡ true =
-    yes _ (leb (s .positions) (length (s .schedule)))
-    (yes _ (leb (places (s .n) (s .m)) (length (s .tables)))
-    (yes _ (within 16 (s .positions))
-    (yes (within 12 (s .n)) (within 8 (s .m)) (within-yes 12 (s .n) (c .some-events) (c .few-events)) (within-yes 8 (s .m) (c .some-modes) (c .few-modes)))
-    (within-yes 16 (s .positions) (c .some-positions) (c .few-positions)))
-    (le-leb (places (s .n) (s .m)) (length (s .tables)) (omega (arith, d .long-tables))))
-    (le-leb (s .positions) (length (s .schedule)) (omega (arith, d .long-schedule))) in
+    let size : Sizes s = record {
+      some-events = c .some-events;
+      few-events = c .few-events;
+      some-modes = c .some-modes;
+      few-modes = c .few-modes;
+      some-positions = c .some-positions;
+      few-positions = c .few-positions;
+      long-tables = omega (arith, d .long-tables);
+      long-schedule = omega (arith, d .long-schedule);
+    } in
     let modes : scheduled s ≡ true =
     ap (λ (l : List ℕ). all (λ t. ltb t (s .m)) l) (take-all (s .positions) (s .schedule) (omega (arith, d .long-schedule))) ∙ below-m file (s .m) (s .positions) (d .a) (s .schedule) (d .b) (d .schedule) in
     let values : admitted s ≡ true =
     ap (λ (l : List ℤ). all admits l) (take-all (places (s .n) (s .m)) (s .tables) (omega (arith, d .long-tables)) ∙ t .is) ∙ admitted-modes file (s .n) (s .m) (d .b) (t .modes) next (t .are) in
-    sym (refused-not s size modes values)
+    sym (refused-not s (sized-yes s size) modes values)

@@ -1,32 +1,27 @@
 -- What was read is written: a sheet that the bytes are is written as these bytes, and it is admitted in memory.
 -- So no two byte strings are the same sheet.
-use mathlib.Core.Path.{_≡_, refl, sym, ap, ap₂, subst, _∙_}
-use mathlib.Core.Bool.{Bool, true, false, _&&_}
+use mathlib.Core.Path.{_≡_, refl, sym, ap, subst, _∙_}
 use mathlib.Core.List.{List, [], _∷_, _++_, append-assoc, append-nil}
-use Prim.Native.Nat.{ℕ, zero, suc, _+_, _-_, _*_, _/_, _%_, _≤_, _<_}
+use Prim.Native.Nat.{ℕ, zero, suc, _+_, _*_, _/_, _%_}
 use native.Mathlib.Omega.{arith}
-use borrow.Author.Tests.{leb-true, lt-ltb, le-leb}
-use lib.IntN.{ℤ}
-use lib.Dec.{leb, ltb}
-use lib.ListN.{length, set, take, drop, replicate, length-append}
+use lib.ListN.{length, take, drop, length-append}
 use lib.Seq.{take-at, drop-at, take-all, drop-length}
 use Rattle.numbers.specs.Groups.{numberAt, groups}
-use Rattle.numbers.specs.Signs.{encoded, decoded}
+use Rattle.numbers.specs.Signs.{encoded}
 use Rattle.numbers.specs.declared.Number.the-variants.{Value}
 use Rattle.numbers.proofs.Signs.{encoded-decoded}
 use Rattle.numbers.proofs.Ways.{Bytes, Stands, groups-read}
-use Rattle.tables.specs.Sheets.{Sheet, sheet, noWindow, inLimit, absent, or, admits, all, within, places, sized, scheduled, admitted, refusal}
-use Rattle.tables.proofs.Laws.{refused-not}
-use Rattle.sheet.specs.File.{Part, got, refused, Window, window, inMode, windowAt, windowsAt, modeAt, modesAt, put, laid, tablesOf, scheduleAt, counts, sheetIn}
-use Rattle.sheet.specs.Written.{inGroups, windowsOf, records, modeNumbers, modesNumbers, sheetNumbers, written}
-use Rattle.sheet.proofs.Numbers.{after-got, tested-value, yes}
+use Rattle.tables.specs.Sheets.{Sheet, sheet, admitted}
+use Rattle.sheet.specs.File.{got, Window, inMode, windowAt, windowsAt, modeAt, modesAt, laid, tablesOf, scheduleAt, sheetIn}
+use Rattle.sheet.specs.Written.{inGroups, records, modeNumbers, modesNumbers, sheetNumbers, written}
+use Rattle.sheet.proofs.Numbers.{after-got, tested-value}
 use Rattle.sheet.proofs.Walking.{then-got}
 use Rattle.sheet.proofs.Places.{kind-of, to-of, from-of}
 use Rattle.sheet.proofs.Windows.{recorded}
-use Rattle.sheet.proofs.Modes.{Good, good, length-laid}
+use Rattle.sheet.proofs.Modes.{good, length-laid}
 use Rattle.sheet.proofs.Runs.{inGroups-append}
 use Rattle.sheet.proofs.Parts.{windows-laid}
-use Rattle.sheet.proofs.Sheets.{Counted, Sheeted, sheeted, Tabled}
+use Rattle.sheet.proofs.Sheets.{sheeted}
 
 -- ---- numbers that stand in a file one after the other
 pub stands-append : (file : List ℕ) (at : ℕ) (a b : List ℕ) (p q : ℕ) → Stands file at a p → Stands file p b q → Stands file at (a ++ b) q

@@ -1,10 +1,9 @@
 -- "The longest sheet has 27,684 bytes": no admitted sheet has more, and one has as many.
-use mathlib.Core.Path.{_≡_, refl, sym, ap, ap₂, subst, _∙_}
-use mathlib.Core.Bool.{Bool, true, false, _&&_}
+use mathlib.Core.Path.{_≡_, refl, sym, ap, subst, _∙_}
+use mathlib.Core.Bool.{true}
 use mathlib.Core.List.{List, [], _∷_, _++_}
-use Prim.Native.Nat.{ℕ, zero, suc, _+_, _-_, _*_, _/_, _%_, _≤_, _<_}
+use Prim.Native.Nat.{ℕ, zero, suc, _+_, _*_, _/_, _%_, _≤_, _<_}
 use native.Mathlib.Omega.{arith}
-use native.Mathlib.Nat.{suc-mul, mul-le-mul-right}
 use native.Mathlib.Decide.{decLt}
 use borrow.Author.Tests.{ltb-true}
 use lib.IntN.{ℤ, pos}
@@ -14,11 +13,11 @@ use lib.Seq.{length-take-le}
 use Rattle.numbers.specs.Groups.{groups, grouped}
 use Rattle.numbers.specs.Signs.{encoded}
 use Rattle.numbers.proofs.Writing.{size-one, size-two, size-three}
-use Rattle.tables.specs.Sheets.{Sheet, sheet, inLimit, admits, all, places, sized, scheduled, admitted, refusal}
-use Rattle.tables.proofs.Laws.{both, accepted, Sizes, passes}
+use Rattle.tables.specs.Sheets.{Sheet, sheet, admits, all, sized, scheduled, admitted, refusal}
+use Rattle.tables.proofs.Laws.{both, accepted, passes}
 use Rattle.sheet.specs.File.{Window}
 use Rattle.sheet.specs.Written.{inGroups, cell, windowsOf, records, modeNumbers, modesNumbers, sheetNumbers, written}
-use Rattle.sheet.proofs.Places.{Fit, fit-of}
+use Rattle.sheet.proofs.Places.{fit-of}
 use Rattle.sheet.proofs.Windows.{few}
 use Rattle.sheet.proofs.Modes.{Good}
 use Rattle.sheet.proofs.Rows.{windows-few}
@@ -28,13 +27,13 @@ use Rattle.sheet.proofs.Sheets.{places-are}
 use Rattle.sheet.proofs.There.{limit-code, all-both, first-long, others-long, parted}
 
 -- ---- the size of a number
-two-at-most : (v : ℕ) → v < 16384 → length (groups v) ≤ 2
+pub two-at-most : (v : ℕ) → v < 16384 → length (groups v) ≤ 2
 two-at-most v h = elim (decLt v 128) [
   | yes a ↦ let e = size-one v a in omega arith
   | no a ↦ let e = size-two v (omega arith) h in omega arith
 ]
 
-three-at-most : (v : ℕ) → v < 2097152 → length (groups v) ≤ 3
+pub three-at-most : (v : ℕ) → v < 2097152 → length (groups v) ≤ 3
 three-at-most v h = elim (decLt v 16384) [
   | yes a ↦ let e = two-at-most v a in omega arith
   | no a ↦ let e = size-three v (omega arith) h in omega arith
@@ -56,7 +55,7 @@ records-size n low (w ∷ rest) h g f =
     let a = size-one (w .place / (n * n)) (omega (arith, k .kinds)) in
     let b = size-one (w .place / n % n + 1) (omega (arith, k .few-to)) in
     let c = size-one (w .place % n + 1) (omega (arith, k .few-from)) in
-    let d = three-at-most (encoded (w .limit)) (omega (arith, limit-code [] (w .limit) (f .2))) in
+    let d = three-at-most (encoded (w .limit)) (omega (arith, limit-code (w .limit) (f .2))) in
     let i = records-size n (w .place + 1) rest h g (f .3) in
     omega (
       arith,

@@ -1,15 +1,16 @@
 -- A mode's windows in its part of the tables, and the modes one after the other.
-use mathlib.Core.Path.{_≡_, refl, sym, ap, subst, _∙_}
-use mathlib.Core.Bool.{Bool, true, false}
-use mathlib.Core.List.{List, [], _∷_, _++_}
+use mathlib.Core.Path.{_≡_, refl, sym, ap, _∙_}
+use mathlib.Core.Bool.{true}
+use mathlib.Core.List.{List, [], _∷_}
 use Prim.Native.Nat.{ℕ, zero, suc, _+_, _-_, _*_, _≤_, _<_}
 use native.Mathlib.Omega.{arith}
 use native.Mathlib.Nat.{add-mul}
 use lib.IntN.{ℤ}
 use lib.ListN.{length, set, replicate, length-set, length-replicate}
 use lib.Seq.{sets}
+use Rattle.sheet.proofs.Counting.{one, none}
 use Rattle.tables.specs.Sheets.{noWindow, inLimit}
-use Rattle.sheet.specs.File.{Part, got, refused, andThen, Window, window, windowAt, windowsAt, modeAt, modesAt, put, laid, tablesOf}
+use Rattle.sheet.specs.File.{Part, got, refused, andThen, Window, windowsAt, modeAt, modesAt, put, laid, tablesOf}
 use Rattle.sheet.specs.Steps.{Walks}
 use Rattle.sheet.specs.declared.Ending.{Ending}
 use Rattle.sheet.specs.declared.Ending.the-variants as ending
@@ -77,9 +78,6 @@ mode-walks file n count at part r now h = cases (windowsAt file n count 0 at) re
 unroll : (file : List ℕ) (n m t p : ℕ) → t < m → modesAt file n (m - t) p ≡ andThen (modeAt file n p) (λ windows a. andThen (modesAt file n (m - (t + 1)) a) (λ rest b. got (windows ∷ rest) b))
 unfolding modesAt
 unroll file n m t p h = ap (λ (k : ℕ). modesAt file n k p) (one m t h)
-  where
-    one : (n k : ℕ) → k < n → n - k ≡ suc (n - (k + 1))
-    one n k h = omega arith
 
 module _ (file : List ℕ) (n m t p : ℕ) (tables : List ℤ) where
   pub mode-next : t < m → (windows : List Window) (a : ℕ) → modeAt file n p ≡ got windows a → (after : List ℤ) → after ≡ sets tables (t * (4 * (n * n))) (laid (4 * (n * n)) windows)
@@ -102,6 +100,3 @@ module _ (file : List ℕ) (n m t p : ℕ) (tables : List ℤ) where
   pub mode-done : m ≤ t → (base : ℕ) → Walks (storeFrom n base) (modesAt file n (m - t) p) tables (ending.At p) tables
   unfolding Walks modesAt tablesOf
   mode-done h base = rw (none m t h) (refl, refl)
-    where
-      none : (n k : ℕ) → n ≤ k → n - k ≡ 0
-      none n k h = omega arith

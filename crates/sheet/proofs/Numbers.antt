@@ -1,17 +1,17 @@
 -- How reading goes on from one number to the next: the laws of `tested` and `after`.
 use mathlib.Core.Path.{_≡_, refl, sym, ap, _∙_}
-use mathlib.Core.Bool.{Bool, true, false, _&&_}
-use Prim.Native.Nat.{ℕ, zero, suc, _+_, _-_, _*_, _/_, _%_, _≤_, _<_}
+use mathlib.Core.Bool.{Bool, true, false}
+use Prim.Native.Nat.{ℕ, _-_, _/_, _%_, _≤_}
 use native.Mathlib.Omega.{arith}
-use borrow.Author.Tests.{ltb-true, ltb-false, leb-true, leb-false, eqb-true, eqb-false, lt-ltb, le-ltb, le-leb, lt-leb, eq-eqb, ne-eqb}
+use borrow.Author.Tests.{ltb-true, leb-true, eqb-true, eqb-false, lt-ltb, le-leb, eq-eqb}
 use lib.Dec.{leb, ltb, eqb}
-use lib.IntN.{ℤ, pos, negsuc}
 use Rattle.numbers.specs.Groups.{pick}
 use Rattle.numbers.specs.Signs.{decoded, signed}
 use Rattle.numbers.specs.declared.Number.{Number}
 use Rattle.numbers.specs.declared.Number.the-variants.{Value, Refused}
-use Rattle.tables.specs.Sheets.{inLimit, within}
-use Rattle.sheet.specs.File.{Part, got, refused, tested, after, andThen}
+use Rattle.tables.specs.Sheets.{inLimit}
+use Rattle.tables.proofs.Laws.{both, yes}
+use Rattle.sheet.specs.File.{Part, got, refused, tested, after}
 use Rattle.sheet.specs.Steps.{between, refusedNumber}
 
 module _ {A : Type 0} (x : Number) (go : ℕ → ℕ → Part A) where
@@ -78,14 +78,6 @@ pub agree : (a b : Bool) → (a ≡ true → b ≡ true) → (b ≡ true → a �
 agree true b f g = sym (f refl)
 agree false true f g = g refl
 agree false false f g = refl
-
-pub both : (a b : Bool) → (a && b) ≡ true → (a ≡ true) × (b ≡ true)
-both true b e = (refl, e)
-both false b e = let z : _≡_ {A = ℕ} 0 1 = cc in absurd (omega arith)
-
-pub yes : (a b : Bool) → a ≡ true → b ≡ true → (a && b) ≡ true
-yes true b e f = f
-yes false b e f = e
 
 -- the reader's tests, as ranges
 module _ (v : ℕ) where

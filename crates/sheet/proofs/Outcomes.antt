@@ -1,13 +1,11 @@
 -- The writer's outcomes, and that both calls have one outcome each.
 use mathlib.Core.Path.{_≡_, refl, sym, ap, _∙_}
-use mathlib.Core.Bool.{Bool, true, false}
-use mathlib.Core.List.{List, [], _∷_, _++_}
+use mathlib.Core.List.{List, [], _∷_}
 use Prim.Native.Nat.{ℕ, _+_, _≤_, _<_}
 use native.Mathlib.Omega.{arith}
-use borrow.Author.Tests.{eq-eqb, ne-eqb, le-leb, lt-leb}
+use borrow.Author.Tests.{ne-eqb, le-leb, lt-leb}
 use lib.IntN.{ℤ}
-use lib.ListN.{length, drop}
-use lib.Seq.{sets}
+use lib.ListN.{length}
 use Rattle.tables.specs.Sheets.{Sheet, refusal}
 use Rattle.sheet.specs.Written.{sheetNumbers, written}
 use Rattle.sheet.specs.Answers.{Answer, answerRead, answerWritten, Reading, Reads, Writing, Writes}

@@ -1,17 +1,14 @@
 -- A mode's part of the tables and the list of its windows are two views of one thing.
 use mathlib.Core.Path.{_≡_, refl, sym, ap, subst, _∙_}
-use mathlib.Core.Bool.{Bool, true, false, _&&_}
-use mathlib.Core.List.{List, [], _∷_, _++_, append-assoc, append-nil}
-use Prim.Native.Nat.{ℕ, zero, suc, _+_, _-_, _*_, _≤_, _<_}
+use mathlib.Core.Bool.{Bool, true, false}
+use mathlib.Core.List.{List, [], _∷_, _++_, append-assoc}
+use Prim.Native.Nat.{ℕ, zero, suc, _+_, _≤_, _<_}
 use native.Mathlib.Omega.{arith}
-use native.Mathlib.Numerals.{add-one}
 use native.Mathlib.Decide.{ℕ-discrete}
 use borrow.Author.Tests.{ltb-true, ne-eqb}
 use lib.IntN.{ℤ, pos, negsuc}
-use lib.Dec.{ltb, eqb}
-use lib.ListN.{length, set, take, drop, replicate, length-append}
+use lib.ListN.{length, replicate, length-append}
 use lib.Seq.{set-at}
-use Rattle.numbers.specs.Groups.{pick}
 use Rattle.tables.specs.Sheets.{noWindow, inLimit, absent, or, admits, all}
 use Rattle.tables.proofs.Laws.{absent-is, both}
 use Rattle.sheet.specs.File.{Window, window, put, laid}

@@ -1,6 +1,6 @@
 -- The place of kind, to, from within a mode's part, and back.
-use mathlib.Core.Path.{_≡_, refl, sym, ap, ap₂, _∙_}
-use Prim.Native.Nat.{ℕ, zero, suc, _+_, _-_, _*_, _/_, _%_, _≤_, _<_}
+use mathlib.Core.Path.{_≡_, sym, ap, ap₂, _∙_}
+use Prim.Native.Nat.{ℕ, _+_, _-_, _*_, _/_, _%_, _≤_, _<_}
 use native.Mathlib.Omega.{arith}
 use native.Mathlib.Nat.{mul-le-mul, mul-le-mul-right, add-mul, mul-assoc, mul-comm, add-assoc, add-zero, mul-add-div-right, div-eq-of-lt, div-div-eq-div-mul, mul-add-mod-self-right, mod-eq-of-lt, div-add-mod', div-lt-iff-lt-mul, mul-pos, mod-lt}
 use Rattle.tables.specs.Sheets.{place}

@@ -7,8 +7,9 @@ use native.Mathlib.Omega.{arith}
 use native.Mathlib.Numerals.{add-one}
 use native.Mathlib.Nat.{add-mul, mul-le-mul-right}
 use lib.IntN.{ℤ, pos}
-use lib.ListN.{length, take, drop, getD, length-append, length-take, length-drop}
-use lib.Seq.{drop-cons, drop-drop, take-all, length-take-le}
+use lib.ListN.{length, take, drop, getD, length-append, length-drop}
+use lib.Seq.{drop-cons, drop-drop, take-all}
+use Rattle.sheet.proofs.Counting.{one, none}
 use Rattle.numbers.specs.Groups.{pick}
 use Rattle.numbers.specs.Signs.{encoded}
 use Rattle.tables.specs.Sheets.{absent}
@@ -18,12 +19,6 @@ use Rattle.sheet.specs.Steps.{State, state, run}
 use Rattle.sheet.proofs.Runs.{run-then, run-none, run-few}
 
 -- ---- one element further
-one : (n k : ℕ) → k < n → n - k ≡ suc (n - (k + 1))
-one n k h = omega arith
-
-none : (n k : ℕ) → n ≤ k → n - k ≡ 0
-none n k h = omega arith
-
 pub rest-cons : {A : Type 0} (l : List A) (n k : ℕ) (d : A) → k < n → k < length l → take (n - k) (drop k l) ≡ getD l k d ∷ take (n - (k + 1)) (drop (k + 1) l)
 rest-cons l n k d h g = rw (one n k h, drop-cons l k d g, add-one k)
 

@@ -1,16 +1,16 @@
 -- The definitions, run on document 01's own sheets and on a file for each refusal.
 use mathlib.Core.Path.{_≡_, refl}
-use mathlib.Core.List.{List, [], _∷_, map}
+use mathlib.Core.List.{[], _∷_, map}
 use Prim.Native.Nat.{ℕ}
-use lib.IntN.{ℤ, pos, negsuc}
+use lib.IntN.{pos}
 use Rattle.numbers.specs.Groups.{numberIn, group, followed, grouped}
 use Rattle.tables.specs.Sheets.{Sheet, sheet, noWindow}
-use Rattle.sheet.specs.File.{Part, got, refused, tested, after, andThen, rising, windowAt, windowsAt, modeAt, modesAt, put, laid, tablesOf, ended, tablesAt, scheduleAt, countsAt, sheetAfter, sheetIn}
+use Rattle.sheet.specs.File.{Part, got, refused, tested, after, andThen, rising, valueAt, windowAt, windowsAt, modeAt, modesAt, put, laid, tablesOf, ended, tablesAt, scheduleAt, countsAt, sheetAfter, sheetIn}
 use Rattle.sheet.specs.Written.{inGroups, cell, windowsOf, records, modeNumbers, modesNumbers, sheetNumbers, written}
 
 -- "The first sheet is `01 01 01 01 00 02 02 01 01 0A 03 01 01 10`": n=1, 2:1,1=5, 3:1,1=8
 pub first : sheetIn (1 ∷ 1 ∷ 1 ∷ 1 ∷ 0 ∷ 2 ∷ 2 ∷ 1 ∷ 1 ∷ 10 ∷ 3 ∷ 1 ∷ 1 ∷ 16 ∷ []) ≡ got (sheet 1 1 1 (noWindow ∷ noWindow ∷ pos 5 ∷ pos 8 ∷ []) (0 ∷ [])) 14
-unfolding sheetIn sheetAfter countsAt scheduleAt tablesAt ended modesAt modeAt windowsAt windowAt rising tested after andThen put laid tablesOf numberIn group followed
+unfolding sheetIn sheetAfter countsAt scheduleAt tablesAt ended modesAt modeAt windowsAt windowAt valueAt rising tested after andThen put laid tablesOf numberIn group followed
 first = refl
 
 pub first-written : written (sheet 1 1 1 (noWindow ∷ noWindow ∷ pos 5 ∷ pos 8 ∷ []) (0 ∷ [])) ≡ 1 ∷ 1 ∷ 1 ∷ 1 ∷ 0 ∷ 2 ∷ 2 ∷ 1 ∷ 1 ∷ 10 ∷ 3 ∷ 1 ∷ 1 ∷ 16 ∷ []
@@ -20,7 +20,7 @@ first-written = refl
 -- the report's sheet: n=2, 0:2,1=3, 1:2,1=4, 2:1,2=2
 pub report : sheetIn (1 ∷ 2 ∷ 1 ∷ 1 ∷ 0 ∷ 3 ∷ 0 ∷ 2 ∷ 1 ∷ 6 ∷ 1 ∷ 2 ∷ 1 ∷ 8 ∷ 2 ∷ 1 ∷ 2 ∷ 4 ∷ [])
     ≡ got (sheet 2 1 1 (noWindow ∷ noWindow ∷ pos 3 ∷ noWindow ∷ noWindow ∷ noWindow ∷ pos 4 ∷ noWindow ∷ noWindow ∷ pos 2 ∷ noWindow ∷ noWindow ∷ noWindow ∷ noWindow ∷ noWindow ∷ noWindow ∷ []) (0 ∷ [])) 18
-unfolding sheetIn sheetAfter countsAt scheduleAt tablesAt ended modesAt modeAt windowsAt windowAt rising tested after andThen put laid tablesOf numberIn group followed
+unfolding sheetIn sheetAfter countsAt scheduleAt tablesAt ended modesAt modeAt windowsAt windowAt valueAt rising tested after andThen put laid tablesOf numberIn group followed
 report = refl
 
 -- the number of a file's refusal, and 0 for a sheet
@@ -64,5 +64,5 @@ pub refusals : map (λ file. numberOf (sheetIn file)) (
     ∷ (1 ∷ 1 ∷ 1 ∷ 1 ∷ 0 ∷ 1 ∷ 0 ∷ 1 ∷ 1 ∷ 255 ∷ 136 ∷ 122 ∷ [])
     ∷ []
     ) ≡ 1 ∷ 1 ∷ 1 ∷ 2 ∷ 2 ∷ 2 ∷ 3 ∷ 4 ∷ 4 ∷ 4 ∷ 4 ∷ 5 ∷ 6 ∷ 6 ∷ 6 ∷ 6 ∷ 6 ∷ 6 ∷ 7 ∷ 6 ∷ 8 ∷ 0 ∷ 0 ∷ []
-unfolding sheetIn sheetAfter countsAt scheduleAt tablesAt ended modesAt modeAt windowsAt windowAt rising tested after andThen put laid tablesOf numberIn group followed
+unfolding sheetIn sheetAfter countsAt scheduleAt tablesAt ended modesAt modeAt windowsAt windowAt valueAt rising tested after andThen put laid tablesOf numberIn group followed
 refusals = refl

@@ -1,15 +1,15 @@
 -- The mode numbers of a schedule, one after the other.
 use mathlib.Core.Path.{_≡_, refl, sym, ap, _∙_}
-use mathlib.Core.List.{List, [], _∷_}
-use Prim.Native.Nat.{ℕ, zero, suc, _+_, _-_, _≤_, _<_}
-use native.Mathlib.Omega.{arith}
+use mathlib.Core.List.{List, _∷_}
+use Prim.Native.Nat.{ℕ, _+_, _-_, _≤_, _<_}
 use native.Mathlib.Numerals.{add-one}
 use lib.Dec.{ltb}
 use lib.ListN.{set}
 use lib.Seq.{sets}
+use Rattle.sheet.proofs.Counting.{one, none}
 use Rattle.numbers.specs.Groups.{numberAt}
 use Rattle.numbers.specs.declared.Number.the-variants.{Value, Refused}
-use Rattle.sheet.specs.File.{Part, got, refused, tested, after, andThen, scheduleAt}
+use Rattle.sheet.specs.File.{got, tested, after, andThen, scheduleAt}
 use Rattle.sheet.specs.Steps.{Walks}
 use Rattle.sheet.specs.declared.Ending.{Ending}
 use Rattle.sheet.specs.declared.Ending.the-variants as ending
@@ -22,9 +22,6 @@ storeModes h was modes = sets was h modes
 unroll : (file : List ℕ) (m v h p : ℕ) → h < v → scheduleAt file m (v - h) p ≡ after (tested (λ t. ltb t m) 5 (numberAt file p)) (λ t a. andThen (scheduleAt file m (v - (h + 1)) a) (λ rest b. got (t ∷ rest) b))
 unfolding scheduleAt
 unroll file m v h p l = ap (λ (k : ℕ). scheduleAt file m k p) (one v h l)
-  where
-    one : (n k : ℕ) → k < n → n - k ≡ suc (n - (k + 1))
-    one n k h = omega arith
 
 module _ (file : List ℕ) (m v h p : ℕ) (schedule : List ℕ) where
   pub position-next : h < v → (t a : ℕ) → tested (λ t. ltb t m) 5 (numberAt file p) ≡ Value t a → (r : Ending) (now : List ℕ)
@@ -39,6 +36,3 @@ module _ (file : List ℕ) (m v h p : ℕ) (schedule : List ℕ) where
   pub position-done : v ≤ h → Walks (storeModes h) (scheduleAt file m (v - h) p) schedule (ending.At p) schedule
   unfolding Walks scheduleAt
   position-done l = rw (none v h l) (refl, refl)
-    where
-      none : (n k : ℕ) → n ≤ k → n - k ≡ 0
-      none n k h = omega arith

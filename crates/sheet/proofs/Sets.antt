@@ -1,13 +1,13 @@
 -- Lists that are written from a place on, as far as there is room: the laws of `sets`.
-use mathlib.Core.Path.{_≡_, refl, sym, ap, subst, _∙_}
+use mathlib.Core.Path.{_≡_, refl, sym, ap, _∙_}
 use mathlib.Core.List.{List, [], _∷_, _++_, append-nil}
 use Prim.Native.Nat.{ℕ, zero, suc, _+_, _-_, _≤_, _<_}
 use native.Mathlib.Omega.{arith}
-use native.Mathlib.Nat.{add-suc, suc-add, add-zero}
+use native.Mathlib.Nat.{add-suc, add-zero}
 use native.Mathlib.Decide.{decLt}
-use lib.ListN.{length, set, take, drop, length-set, length-drop, take-append-drop}
-use lib.Seq.{sets, set-comm, set-set, take-all, take-set-le, drop-set-add, drop-drop, drop-length, set-out, length-sets}
-use borrow.Rule.Slice.PartMut.{midOf, postOf, putMid}
+use lib.ListN.{length, set, take, drop, length-drop, take-append-drop}
+use lib.Seq.{sets, set-comm, set-set, take-all, take-set-le, drop-set-add, drop-drop, drop-length}
+use borrow.Rule.Slice.PartMut.{midOf, putMid}
 use Rattle.numbers.proofs.Writing.{sets-out}
 
 module _ {A : Type 0} where

@@ -1,26 +1,26 @@
 -- A sheet that was read: what its parts are, and what the buffers hold.
 use mathlib.Core.Path.{_≡_, refl, sym, ap, _∙_}
-use mathlib.Core.Bool.{Bool, true, false, _&&_}
+use mathlib.Core.Bool.{Bool, true, false}
 use mathlib.Core.List.{List, [], _∷_, _++_}
-use Prim.Native.Nat.{ℕ, zero, suc, _+_, _-_, _*_, _≤_, _<_}
+use Prim.Native.Nat.{ℕ, zero, suc, _+_, _*_, _≤_, _<_}
 use native.Mathlib.Omega.{arith}
-use native.Mathlib.Nat.{mul-assoc, mul-comm, suc-mul, mul-left-comm}
-use borrow.Author.Tests.{ltb-true, eqb-true, eq-eqb, ne-eqb, le-leb, lt-leb}
-use lib.Dec.{leb, ltb, eqb}
+use native.Mathlib.Nat.{mul-assoc, mul-comm, suc-mul}
+use borrow.Author.Tests.{eqb-true, le-leb, lt-leb}
+use lib.Dec.{eqb}
 use lib.IntN.{ℤ}
-use lib.ListN.{length, take, drop, getD, length-append}
+use lib.ListN.{length, drop, length-append}
 use lib.Seq.{sets, sets-eq}
 use Rattle.numbers.specs.Groups.{pick, numberAt}
 use Rattle.numbers.specs.declared.Number.the-variants.{Value}
-use Rattle.tables.specs.Sheets.{Sheet, sheet, places, within}
+use Rattle.tables.specs.Sheets.{Sheet, sheet, places}
 use Rattle.tables.proofs.Laws.{within-is}
-use Rattle.sheet.specs.File.{Part, got, refused, andThen, Window, Counts, counts, countsAt, scheduleAt, modesAt, tablesOf, laid, ended, tablesAt, sheetAfter, sheetIn}
-use Rattle.sheet.specs.Answers.{Answer, answerRead, Reading, reading, unread, readInto, readOf, Reads}
+use Rattle.sheet.specs.File.{Part, got, refused, Window, Counts, counts, countsAt, scheduleAt, modesAt, tablesOf, laid, ended, tablesAt, sheetAfter, sheetIn}
+use Rattle.sheet.specs.Answers.{Reads}
 use Rattle.sheet.specs.Steps.{Fills}
 use Rattle.sheet.specs.declared.Read.{Read}
 use Rattle.sheet.specs.declared.Read.the-variants as read
 use Rattle.sheet.proofs.Numbers.{after-got, tested-value}
-use Rattle.sheet.proofs.Walking.{then-got, then-value, then-refused}
+use Rattle.sheet.proofs.Walking.{then-got}
 use Rattle.sheet.proofs.Modes.{length-laid}
 
 -- ---- n, m and V

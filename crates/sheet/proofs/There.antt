@@ -1,28 +1,28 @@
 -- What was written is read: the bytes of an admitted sheet are read as its n, m, V, tables and schedule, without the surplus.
 use mathlib.Core.Path.{_≡_, refl, sym, ap, ap₂, subst, _∙_}
-use mathlib.Core.Bool.{Bool, true, false, _&&_}
+use mathlib.Core.Bool.{Bool, true}
 use mathlib.Core.List.{List, [], _∷_, _++_, append-assoc, append-nil}
-use Prim.Native.Nat.{ℕ, zero, suc, _+_, _-_, _*_, _/_, _%_, _≤_, _<_}
+use Prim.Native.Nat.{ℕ, zero, suc, _+_, _*_, _/_, _%_, _≤_, _<_}
 use native.Mathlib.Omega.{arith}
-use native.Mathlib.Nat.{suc-mul, mul-le-mul}
-use borrow.Author.Tests.{leb-true, ltb-true, lt-ltb, le-leb, eq-eqb}
+use native.Mathlib.Nat.{suc-mul}
+use borrow.Author.Tests.{leb-true, ltb-true, le-leb, eq-eqb}
 use lib.IntN.{ℤ, pos, negsuc}
 use lib.Dec.{leb, ltb, eqb}
-use lib.ListN.{length, take, drop, length-append, length-drop}
-use lib.Seq.{take-all, take-add, drop-drop, drop-append-seam, length-take-le}
-use Rattle.numbers.specs.Groups.{pick, numberAt, groups}
+use lib.ListN.{length, take, drop, length-drop}
+use lib.Seq.{take-add, drop-drop, drop-append-seam, length-take-le}
+use Rattle.numbers.specs.Groups.{numberAt, groups}
 use Rattle.numbers.specs.Signs.{encoded, decoded}
 use Rattle.numbers.specs.declared.Number.the-variants.{Value}
 use Rattle.numbers.proofs.Signs.{decoded-encoded}
 use Rattle.numbers.proofs.Ways.{read-groups}
 use Rattle.numbers.proofs.Reading as reading
 use Rattle.tables.specs.Sheets.{Sheet, sheet, inLimit, admits, all, within, places, sized, scheduled, admitted, refusal}
-use Rattle.tables.proofs.Laws.{both, accepted, Sizes, passes}
-use Rattle.sheet.specs.File.{Part, got, refused, Window, window, inMode, rising, windowAt, windowsAt, modeAt, modesAt, laid, tablesOf, ended, tablesAt, scheduleAt, counts, countsAt, sheetAfter, sheetIn, tested}
+use Rattle.tables.proofs.Laws.{both, accepted, passes, yes}
+use Rattle.sheet.specs.File.{Part, got, Window, rising, valueAt, windowAt, windowsAt, modeAt, modesAt, tablesOf, ended, tablesAt, scheduleAt, counts, countsAt, sheetAfter, sheetIn}
 use Rattle.sheet.specs.Written.{inGroups, windowsOf, records, modeNumbers, modesNumbers, sheetNumbers, written}
-use Rattle.sheet.proofs.Numbers.{after-value, tested-yes, yes}
+use Rattle.sheet.proofs.Numbers.{after-value, tested-yes}
 use Rattle.sheet.proofs.Walking.{then-value}
-use Rattle.sheet.proofs.Places.{Fit, place-of, fit-of}
+use Rattle.sheet.proofs.Places.{place-of, fit-of}
 use Rattle.sheet.proofs.Windows.{few}
 use Rattle.sheet.proofs.Modes.{Good}
 use Rattle.sheet.proofs.Rows.{windows-few}
@@ -45,6 +45,11 @@ pub record Number (file : List ℕ) (at v : ℕ) (more : List ℕ) : Type 0 wher
   pub is : numberAt file at ≡ Value v next
   pub after : Holds file next more
 
+-- the code of a limit in its range
+pub limit-code : (v : ℤ) → inLimit v ≡ true → encoded v ≤ 2000000
+limit-code (pos a) e = omega (arith, leb-true a 1000000 e)
+limit-code (negsuc a) e = omega (arith, ltb-true a 1000000 e)
+
 module _ (file : List ℕ) where
   pub number : (at v : ℕ) (more : List ℕ) → v < 268435456 → Holds file at (v ∷ more) → Number file at v more
   unfolding inGroups
@@ -60,13 +65,9 @@ module _ (file : List ℕ) where
       }
 
   -- ---- a record
-  pub limit-code : (v : ℤ) → inLimit v ≡ true → encoded v ≤ 2000000
-  limit-code (pos a) e = omega (arith, leb-true a 1000000 e)
-  limit-code (negsuc a) e = omega (arith, ltb-true a 1000000 e)
-
   window-there : (n low at : ℕ) (w : Window) (more : List ℕ) → 0 < n → n ≤ 12 → low ≤ w .place → w .place < 4 * (n * n) → inLimit (w .limit) ≡ true
       → Holds file at ((w .place / (n * n)) ∷ (w .place / n % n + 1) ∷ (w .place % n + 1) ∷ encoded (w .limit) ∷ more) → There file (windowAt file n low at) w more
-  unfolding windowAt rising
+  unfolding windowAt valueAt rising
   window-there n low at w more h g l p i k =
       let f = fit-of n (w .place) h p in
       let c = limit-code (w .limit) i in

@@ -1,6 +1,6 @@
 -- How a list of things is read one after the other, each put where it belongs: the laws of `Walks` and `andThen`.
 use mathlib.Core.Path.{_≡_, refl, sym, ap, _∙_}
-use mathlib.Core.List.{List, [], _∷_}
+use mathlib.Core.List.{List, _∷_}
 use Prim.Native.Nat.{ℕ}
 use native.Mathlib.Omega.{arith}
 use Rattle.sheet.specs.File.{Part, got, refused, andThen}

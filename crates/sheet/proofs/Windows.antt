@@ -1,22 +1,23 @@
 -- The records of a mode: what one is, and how they are read one after the other.
 use mathlib.Core.Path.{_≡_, refl, sym, ap, _∙_}
 use mathlib.Core.Bool.{Bool, true, false}
-use mathlib.Core.List.{List, [], _∷_}
-use Prim.Native.Nat.{ℕ, zero, suc, _+_, _-_, _*_, _≤_, _<_}
+use mathlib.Core.List.{List, _∷_}
+use Prim.Native.Nat.{ℕ, _+_, _-_, _*_, _≤_, _<_}
 use native.Mathlib.Omega.{arith}
 use native.Mathlib.Numerals.{add-one}
 use native.Mathlib.Nat.{mul-le-mul}
 use borrow.Author.Tests.{leb-true}
 use lib.Dec.{leb}
 use lib.IntN.{ℤ}
-use lib.ListN.{length, set, replicate}
+use lib.ListN.{set, replicate}
 use lib.Seq.{sets}
+use Rattle.sheet.proofs.Counting.{one, none}
 use Rattle.numbers.specs.Groups.{pick, numberAt}
 use Rattle.numbers.specs.Signs.{decoded}
 use Rattle.numbers.specs.declared.Number.the-variants.{Value}
 use Rattle.tables.specs.Sheets.{inLimit, noWindow}
 use Rattle.tables.proofs.Laws.{within-is}
-use Rattle.sheet.specs.File.{Part, got, refused, andThen, Window, window, inMode, rising, windowAt, windowsAt, put}
+use Rattle.sheet.specs.File.{Part, got, refused, andThen, Window, window, inMode, rising, valueAt, windowAt, windowsAt, put}
 use Rattle.sheet.specs.Steps.{Walks}
 use Rattle.sheet.specs.declared.Ending.{Ending}
 use Rattle.sheet.specs.declared.Ending.the-variants as ending
@@ -59,7 +60,7 @@ risen low p v next w end h = cases (leb low p) refl h
     cases false q h = absurd (never h)
 
 pub recorded : (file : List ℕ) (n low at : ℕ) (w : Window) (next : ℕ) → windowAt file n low at ≡ got w next → Recorded file n low at w next
-unfolding windowAt
+unfolding windowAt valueAt
 recorded file n low at w next h =
     let k = after-got _ _ _ _ h in
     let t = after-got _ _ _ _ (k .rest) in
@@ -107,9 +108,6 @@ unroll : (file : List ℕ) (n count k low p : ℕ) → k < count
     → windowsAt file n (count - k) low p ≡ andThen (windowAt file n low p) (λ w a. andThen (windowsAt file n (count - (k + 1)) (w .place + 1) a) (λ rest b. got (w ∷ rest) b))
 unfolding windowsAt
 unroll file n count k low p h = ap (λ (m : ℕ). windowsAt file n m low p) (one count k h)
-  where
-    one : (n k : ℕ) → k < n → n - k ≡ suc (n - (k + 1))
-    one n k h = omega arith
 
 module _ (file : List ℕ) (n count k low p : ℕ) (part : List ℤ) where
   pub next : k < count → (w : Window) (a : ℕ) → windowAt file n low p ≡ got w a → (r : Ending) (now : List ℤ)
@@ -123,20 +121,11 @@ module _ (file : List ℕ) (n count k low p : ℕ) (part : List ℤ) where
   pub done : count ≤ k → Walks store (windowsAt file n (count - k) low p) part (ending.At p) part
   unfolding Walks windowsAt put
   done h = rw (none count k h) (refl, refl)
-    where
-      none : (n k : ℕ) → n ≤ k → n - k ≡ 0
-      none n k h = omega arith
 
 -- ---- the loop that clears a part: k places are passed
 module _ (part : List ℤ) (size k : ℕ) (whole : List ℤ) (e : sets part k (replicate (size - k) noWindow) ≡ whole) where
   pub clear-next : k < size → sets (set part k noWindow) (k + 1) (replicate (size - (k + 1)) noWindow) ≡ whole
-  clear-next h = rw (add-one k) (sym (ap (λ (m : ℕ). sets part k (replicate m noWindow)) (one size k h)) ∙ e)
-    where
-      one : (n k : ℕ) → k < n → n - k ≡ suc (n - suc k)
-      one n k h = omega arith
+  clear-next h = ap (λ (j : ℕ). sets (set part k noWindow) j (replicate (size - (k + 1)) noWindow)) (add-one k) ∙ sym (ap (λ (m : ℕ). sets part k (replicate m noWindow)) (one size k h)) ∙ e
 
   pub clear-done : size ≤ k → part ≡ whole
   clear-done h = sym (ap (λ (m : ℕ). sets part k (replicate m noWindow)) (none size k h)) ∙ e
-    where
-      none : (n k : ℕ) → n ≤ k → n - k ≡ 0
-      none n k h = omega arith

@@ -2,7 +2,7 @@
 -- "Order: format number 1; n; m; V; V mode numbers from 0; then for each mode a count and that many records of kind, to, from, value."
 -- "The reader checks each number as soon as it is read, left to right; 7 follows a record's fourth number; 8 after the last record".
 use Prim.Native.Nat.{ℕ, zero, suc, _+_, _-_, _*_}
-use mathlib.Core.Bool.{Bool, true, false}
+use mathlib.Core.Bool.{Bool}
 use mathlib.Core.List.{List, [], _∷_, _++_}
 use lib.Dec.{leb, ltb, eqb}
 use lib.ListN.{length, set, replicate}
@@ -48,14 +48,19 @@ inMode n kind to from = (kind * n + (to - 1)) * n + (from - 1)
 unfoldable pub rising : ℕ → ℕ → ℤ → ℕ → Part Window
 rising low p v next = pick (leb low p) (got (window p v) next) (refused 7)
 
--- a record. 6: "kind above 3, event not 1..n, value past its limit"
+-- the fourth number of a record, whose first three give its place. 6: "value past its limit"; "7 follows a record's fourth number"
+unfoldable pub valueAt : List ℕ → ℕ → ℕ → ℕ → Part Window
+valueAt file low p at =
+    after (tested (λ u. inLimit (decoded u)) 6 (numberAt file at)) λ u next.
+    rising low p (decoded u) next
+
+-- a record. 6: "kind above 3, event not 1..n"
 unfoldable pub windowAt : List ℕ → ℕ → ℕ → ℕ → Part Window
 windowAt file n low at =
     after (tested (λ kind. leb kind 3) 6 (numberAt file at)) λ kind a.
     after (tested (within n) 6 (numberAt file a)) λ to b.
     after (tested (within n) 6 (numberAt file b)) λ from c.
-    after (tested (λ u. inLimit (decoded u)) 6 (numberAt file c)) λ u d.
-    rising low (inMode n kind to from) (decoded u) d
+    valueAt file low (inMode n kind to from) c
 
 -- so many records, the first of them at or above the place `low`
 unfoldable pub windowsAt : List ℕ → ℕ → ℕ → ℕ → ℕ → Part (List Window)

@@ -6,7 +6,7 @@ use Prim.Native.Nat.{ℕ, zero, suc, _+_, _-_, _*_, _≤_, _<_}
 use native.Mathlib.Omega.{arith}
 use native.Mathlib.Numerals.{add-one}
 use native.Mathlib.Nat.{mul-le-mul}
-use borrow.Author.Tests.{ltb-true, leb-true, eqb-true, ltb-false, leb-false, eqb-false, lt-ltb, le-ltb, lt-leb, le-leb, ne-eqb, eq-eqb}
+use borrow.Author.Tests.{ltb-true, leb-true, eqb-true, ltb-false, eqb-false, lt-ltb, le-ltb, le-leb, ne-eqb, eq-eqb}
 use lib.Dec.{leb, ltb, eqb}
 use lib.ListN.{getD, length, take, drop}
 use lib.Seq.{drop-cons}
@@ -20,6 +20,10 @@ use Rattle.tables.specs.Sheets.{Sheet, noWindow, places, inLimit, absent
 pub both : (a b : Bool) → (a && b) ≡ true → (a ≡ true) × (b ≡ true)
 both true b e = (refl, e)
 both false b e = let z : _≡_ {A = ℕ} 0 1 = cc in absurd (omega arith)
+
+pub yes : (a b : Bool) → a ≡ true → b ≡ true → (a && b) ≡ true
+yes true b e f = f
+yes false b e f = e
 
 clash : true ≡ false → ⊥
 clash e = let z : _≡_ {A = ℕ} 0 1 = cc in omega arith
@@ -135,6 +139,20 @@ sizes s e =
       long-tables = leb-true _ _ (b .1);
       long-schedule = leb-true _ _ (a .1);
     }
+
+pub within-yes : (most k : ℕ) → 1 ≤ k → k ≤ most → within most k ≡ true
+within-yes most k h l = yes (leb 1 k) (leb k most) (le-leb 1 k h) (le-leb k most l)
+
+pub sized-yes : (s : Sheet) → Sizes s → sized s ≡ true
+unfolding sized
+sized-yes s z =
+    yes _ (leb (s .positions) (length (s .schedule)))
+    (yes _ (leb (places (s .n) (s .m)) (length (s .tables)))
+    (yes _ (within 16 (s .positions))
+    (yes (within 12 (s .n)) (within 8 (s .m)) (within-yes 12 (s .n) (z .some-events) (z .few-events)) (within-yes 8 (s .m) (z .some-modes) (z .few-modes)))
+    (within-yes 16 (s .positions) (z .some-positions) (z .few-positions)))
+    (le-leb (places (s .n) (s .m)) (length (s .tables)) (z .long-tables)))
+    (le-leb (s .positions) (length (s .schedule)) (z .long-schedule))
 
 -- no more than 144 pairs of events, and 4,608 places
 pub square : (n : ℕ) → n ≤ 12 → n * n ≤ 144

@@ -17,6 +17,7 @@ pub record Sheet : Type 0 where
   pub tables : List ℤ
   pub schedule : List ℕ
 
+-- a sheet of its five parts
 abbrev pub sheet : ℕ → ℕ → ℕ → List ℤ → List ℕ → Sheet
 sheet n m positions tables schedule = record { n = n; m = m; positions = positions; tables = tables; schedule = schedule }
 

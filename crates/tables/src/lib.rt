@@ -2,12 +2,13 @@
 // This crate knows what is admitted there (refusals 4, 5 and 6); it knows no file and no plan.
 // It renders document 01's "Numbers and room".
 ghost use mathlib.Core.Path.{_≡_};
-ghost use Prim.Native.Nat.{_≤_, _<_};
-ghost use mathlib.Core.Bool.{_&&_};
-ghost use lib.Dec.{leb, ltb};
-ghost use lib.ListN.{length, take, getD};
-ghost use lib.IntN.{pos};
-ghost use Rattle.tables.specs.Sheets.{Sheet, within, admits, absent, all, sheet, sized, scheduled, admitted, refusal};
+ghost use Prim.Native.Nat.{_≤_};
+ghost use lib.Dec.{ltb};
+ghost use lib.ListN.{length, take};
+ghost use Rattle.tables.specs.Sheets.{within, admits, absent, all, sheet, sized, refusal};
+
+// "Numbers and room": four kinds; n 1..12; m 1..8; V 1..16; w -1,000,000..1,000,000; and "no window".
+pub const KINDS: usize = 4;
 
 pub const MOST_EVENTS: usize = 12;
 
@@ -59,7 +60,7 @@ fn is_sized(n: usize, m: usize, positions: usize, tables: &[i32], schedule: &[u8
     if !is_within(MOST_POSITIONS, positions) {
         return false;
     }
-    if tables.len() < 4 * m * (n * n) {
+    if tables.len() < KINDS * m * (n * n) {
         return false;
     }
     positions <= schedule.len()
@@ -111,7 +112,7 @@ pub fn judge(n: usize, m: usize, positions: usize, tables: &[i32], schedule: &[u
     if !is_scheduled(m, positions, schedule) {
         return 5;
     }
-    if !are_admitted(4 * m * (n * n), tables) {
+    if !are_admitted(KINDS * m * (n * n), tables) {
         return 6;
     }
     0

@@ -1,7 +1,8 @@
+-- `numbers::number_in` meets its contract. It is its definition, unrolled once; the groups that are left fall.
 use Rattle.numbers.specs.Groups.{numberIn, group, followed}
 use Rattle.numbers.proofs.Reading.{unroll, three, group-one, group-more}
-use borrow.Author.Tests.{lt-ltb, le-ltb}
-use mathlib.Core.Path.{sym, ap, _∙_, _≡_}
+use borrow.Author.Tests.{le-ltb}
+use mathlib.Core.Path.{sym, ap, _∙_}
 use native.Mathlib.Omega.{arith}
 use borrow.Author.Needs.{needs}
 use Prim.Native.Nat.{ℕ, _<_, _-_, _+_, _%_}

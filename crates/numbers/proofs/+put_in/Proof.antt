@@ -1,10 +1,11 @@
+-- `numbers::put_in` meets its contract: the first group is stored, and the rest is written after it; the groups that are left fall.
 use Rattle.numbers.specs.Groups.{grouped}
 use Rattle.numbers.proofs.Writing.{sets-out, put-one, put-more}
-use mathlib.Core.Path.{_≡_, refl, sym, ap, _∙_}
+use mathlib.Core.Path.{sym, ap, _∙_}
 use native.Mathlib.Omega.{arith}
 use lib.ListN.{set, length-set}
 use lib.Seq.{sets}
-use Prim.Native.Nat.{_+_, _-_, _/_, _%_}
+use Prim.Native.Nat.{_+_, _-_, _/_}
 use borrow.Author.Needs.{needs}
 use Prim.Native.Nat.{ℕ, _<_}
 use borrow.Fn.Kinds.{In}

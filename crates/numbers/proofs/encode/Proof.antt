@@ -1,11 +1,10 @@
+-- `numbers::encode` meets its contract. `!v` of a negative v has the bits of -v - 1.
 use mathlib.Core.Path.{ap}
 use native.Mathlib.Omega.{arith}
 use Rattle.numbers.specs.Signs.{encoded}
 use Rattle.numbers.proofs.Signs.{flip, keep, is-neg, is-pos}
 use Rattle.numbers.proofs.encode.Statement.{statement}
 use Rattle.numbers.proofs.encode.Tie as tie
-use Rattle.numbers.proofs.encode.Reads as reads
-use Rattle.numbers.proofs.encode.Lts as lts
 
 cast-result : tie.Need-cast-result
 cast-result c = rw (flip (c .before .args .v) (c .before .fits .v) (c .if1 .taken)) (tt, omega (arith, c .before .fits .v .sfits))

@@ -1,11 +1,10 @@
+-- `numbers::follow` meets its contract: by what the rest is. What was read in three groups is below 2 ^ 21, so that the value fits.
 use Rattle.numbers.specs.Groups.{followed}
 use borrow.Author.Tests.{eq-eqb, ne-eqb}
 use native.Mathlib.Omega.{arith}
 use borrow.Author.Needs.{needs}
 use Rattle.numbers.proofs.follow.Statement.{statement}
 use Rattle.numbers.proofs.follow.Tie as tie
-use Rattle.numbers.proofs.follow.Reads as reads
-use Rattle.numbers.proofs.follow.Lts as lts
 
 enum-known-rest : tie.Need-enum-known-rest
 enum-known-rest c = search needs

@@ -1,8 +1,7 @@
+-- `numbers::size` meets its contract: by the ranges of one, two, three and four groups.
 use Rattle.numbers.proofs.Writing.{size-one, size-two, size-three, size-four}
 use Rattle.numbers.proofs.size.Statement.{statement}
 use Rattle.numbers.proofs.size.Tie as tie
-use Rattle.numbers.proofs.size.Reads as reads
-use Rattle.numbers.proofs.size.Lts as lts
 
 returns : tie.Need-returns
 returns c = size-one (c .before .args .value) (c .if1 .taken)

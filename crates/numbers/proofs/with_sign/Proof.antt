@@ -1,11 +1,10 @@
+-- `numbers::with_sign` meets its contract: the bits of a size, complemented, are those of the negative number.
 use mir.Syntax.{w32}
 use mir.ValLaws.{toZ-pos}
 use Rattle.numbers.proofs.Signs.{unflip}
 use borrow.Author.Needs.{needs}
 use Rattle.numbers.proofs.with_sign.Statement.{statement}
 use Rattle.numbers.proofs.with_sign.Tie as tie
-use Rattle.numbers.proofs.with_sign.Reads as reads
-use Rattle.numbers.proofs.with_sign.Lts as lts
 
 cast-v : tie.Need-cast-v
 cast-v c = search needs

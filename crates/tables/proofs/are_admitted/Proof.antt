@@ -1,23 +1,18 @@
+-- `tables::are_admitted` meets its contract. The invariant: the test of the values that are left is the test of all.
 use Rattle.tables.specs.Sheets.{all, admits}
 use Rattle.tables.proofs.Laws.{all-stop, all-next, all-end}
 use native.Mathlib.Nat.{sub-zero}
-use mir.Val.{SFits}
 use mir.Syntax.{w32}
 use mir.ValLaws.{toZ-ofZ}
-use mathlib.Core.Path.{_≡_, refl, sym, ap, _∙_}
-use mathlib.Core.Bool.{Bool, true, false}
-use Prim.Native.Nat.{ℕ, _+_, _-_, _*_, _≤_, _<_}
+use mathlib.Core.Path.{_≡_, sym, ap, _∙_}
+use Prim.Native.Nat.{ℕ, _-_, _≤_}
 use native.Mathlib.Omega.{arith}
-use borrow.Author.Tests.{not-true, not-false, eq-eqb, ne-eqb, le-ltb, lt-ltb, le-leb, lt-leb}
-use lib.Dec.{ltb}
+use borrow.Author.Tests.{not-true, not-false}
 use lib.ListN.{length, take, drop, getD}
 use lib.IntN.{pos}
 use borrow.Author.Needs.{needs}
 use Rattle.tables.proofs.are_admitted.Statement.{statement}
 use Rattle.tables.proofs.are_admitted.Tie as tie
-use Rattle.tables.proofs.are_admitted.Reads as reads
-use Rattle.tables.proofs.are_admitted.Lts as lts
-use Rattle.tables.proofs.is_admitted.Reads as is-admitted-reads
 
 abbrev Inv-loop : tie.InvT-loop
 Inv-loop count tables k₀ k = (k ≤ count) × (count ≤ length tables) × (all admits (take count tables) ≡ all admits (take (count - k) (drop k tables)))

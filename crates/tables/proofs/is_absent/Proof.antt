@@ -1,8 +1,7 @@
+-- `tables::is_absent` meets its contract: the test of the bits is that of the integer.
 use Rattle.tables.proofs.Laws.{is-absent}
 use Rattle.tables.proofs.is_absent.Statement.{statement}
 use Rattle.tables.proofs.is_absent.Tie as tie
-use Rattle.tables.proofs.is_absent.Reads as reads
-use Rattle.tables.proofs.is_absent.Lts as lts
 
 returns : tie.Need-returns
 returns c = is-absent (c .args .value) (c .fits .value .sfits)

@@ -1,19 +1,12 @@
+-- `tables::is_admitted` meets its contract: by "no window" first, then by the lower limit.
 use Rattle.tables.proofs.Laws.{is-absent, admits-absent, admits-low, admits-high}
 use mir.ValLaws.{toZ-ofZ}
 use mir.Syntax.{w32}
-use mathlib.Core.Path.{_≡_, refl, sym, ap, _∙_}
-use mathlib.Core.Bool.{Bool, true, false}
-use Prim.Native.Nat.{ℕ, _+_, _-_, _*_, _≤_, _<_}
-use native.Mathlib.Omega.{arith}
-use borrow.Author.Tests.{not-true, not-false, eq-eqb, ne-eqb, le-ltb, lt-ltb, le-leb, lt-leb}
-use lib.Dec.{ltb}
-use lib.ListN.{length, take, drop, getD}
-use lib.IntN.{pos}
+use mathlib.Core.Path.{sym, _∙_}
+use borrow.Author.Tests.{eq-eqb, ne-eqb}
 use borrow.Author.Needs.{needs}
 use Rattle.tables.proofs.is_admitted.Statement.{statement}
 use Rattle.tables.proofs.is_admitted.Tie as tie
-use Rattle.tables.proofs.is_admitted.Reads as reads
-use Rattle.tables.proofs.is_admitted.Lts as lts
 
 returns : tie.Need-returns
 returns c = let s = c .before in admits-absent (s .args .value) (sym (is-absent (s .args .value) (s .fits .value .sfits)) ∙ eq-eqb _ _ (c .if1 .taken))

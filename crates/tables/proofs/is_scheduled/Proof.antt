@@ -1,20 +1,16 @@
+-- `tables::is_scheduled` meets its contract. The invariant: the test of the positions that are left is the test of all.
 use Rattle.tables.specs.Sheets.{all}
 use Rattle.tables.proofs.Laws.{all-stop, all-next, all-end}
 use native.Mathlib.Nat.{sub-zero}
-use mathlib.Core.Path.{_≡_, refl, sym, ap, _∙_}
-use mathlib.Core.Bool.{Bool, true, false}
-use Prim.Native.Nat.{ℕ, _+_, _-_, _*_, _≤_, _<_}
+use mathlib.Core.Path.{_≡_, sym, ap}
+use Prim.Native.Nat.{ℕ, _-_, _≤_}
 use native.Mathlib.Omega.{arith}
-use borrow.Author.Tests.{not-true, not-false, eq-eqb, ne-eqb, le-ltb, lt-ltb, le-leb, lt-leb}
+use borrow.Author.Tests.{le-ltb, lt-ltb}
 use lib.Dec.{ltb}
 use lib.ListN.{length, take, drop, getD}
-use lib.IntN.{pos}
 use borrow.Author.Needs.{needs}
 use Rattle.tables.proofs.is_scheduled.Statement.{statement}
 use Rattle.tables.proofs.is_scheduled.Tie as tie
-use Rattle.tables.proofs.is_scheduled.Reads as reads
-use Rattle.tables.proofs.is_scheduled.Lts as lts
-use Rattle.tables.proofs.wide.Reads as wide-reads
 
 abbrev Inv-loop : tie.InvT-loop
 Inv-loop m positions schedule h₀ h = (h ≤ positions) × (positions ≤ length schedule) × (all (λ t. ltb t m) (take positions schedule) ≡ all (λ t. ltb t m) (take (positions - h) (drop h schedule)))

@@ -1,16 +1,14 @@
+-- `tables::is_sized` meets its contract: each test that is passed is a part of the definition, and bounds the products of the next.
 use Rattle.tables.specs.Sheets.{within, sized}
 use Rattle.tables.proofs.Laws.{within-is, square, few-places}
-use mathlib.Core.Path.{_≡_, refl, sym, ap, _∙_}
-use mathlib.Core.Bool.{Bool, true, false}
-use Prim.Native.Nat.{ℕ, _+_, _-_, _*_, _≤_, _<_}
+use mathlib.Core.Path.{_≡_, sym, _∙_}
+use mathlib.Core.Bool.{true}
+use Prim.Native.Nat.{_*_, _≤_}
 use native.Mathlib.Omega.{arith}
 use borrow.Author.Tests.{not-true, not-false, le-leb, lt-leb}
 use borrow.Author.Needs.{needs}
 use Rattle.tables.proofs.is_sized.Statement.{statement}
 use Rattle.tables.proofs.is_sized.Tie as tie
-use Rattle.tables.proofs.is_sized.Reads as reads
-use Rattle.tables.proofs.is_sized.Lts as lts
-use Rattle.tables.proofs.is_within.Reads as is-within-reads
 
 -- the three limits, where their tests are passed
 events : (c : tie.Else1) → within 12 (c .before .before .before .args .n) ≡ true

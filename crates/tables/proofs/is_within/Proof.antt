@@ -1,8 +1,7 @@
+-- `tables::is_within` meets its contract: by the first test.
 use borrow.Author.Tests.{le-leb, lt-leb}
 use Rattle.tables.proofs.is_within.Statement.{statement}
 use Rattle.tables.proofs.is_within.Tie as tie
-use Rattle.tables.proofs.is_within.Reads as reads
-use Rattle.tables.proofs.is_within.Lts as lts
 
 returns : tie.Need-returns
 returns c = rw (le-leb _ _ (c .if1 .taken))

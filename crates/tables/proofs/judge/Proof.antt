@@ -1,17 +1,13 @@
-use mathlib.Core.Path.{_≡_, refl, sym, ap, _∙_}
-use mathlib.Core.Bool.{Bool, true, false}
+-- `tables::judge` meets its contract: the three tests in their order, each resting on those before it.
+use mathlib.Core.Path.{_≡_, sym, _∙_}
+use mathlib.Core.Bool.{true}
 use native.Mathlib.Omega.{arith}
 use borrow.Author.Tests.{not-true, not-false}
 use Rattle.tables.specs.Sheets.{Sheet, sheet, sized, scheduled, admitted}
-use Rattle.tables.proofs.Laws.{Sizes, sizes, square, few-places, refused-4, refused-5, refused-6, refused-not}
+use Rattle.tables.proofs.Laws.{sizes, square, few-places, refused-4, refused-5, refused-6, refused-not}
 use borrow.Author.Needs.{needs}
 use Rattle.tables.proofs.judge.Statement.{statement}
 use Rattle.tables.proofs.judge.Tie as tie
-use Rattle.tables.proofs.judge.Reads as reads
-use Rattle.tables.proofs.judge.Lts as lts
-use Rattle.tables.proofs.are_admitted.Reads as are-admitted-reads
-use Rattle.tables.proofs.is_scheduled.Reads as is-scheduled-reads
-use Rattle.tables.proofs.is_sized.Reads as is-sized-reads
 
 -- the sheet that is judged
 abbrev S : tie.Start → Sheet
