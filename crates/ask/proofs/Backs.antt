@@ -1,8 +1,8 @@
 -- The way back through the marks: N + 1 nodes below N are not apart, so it meets a node again, and between the two levels it is closed.
 use mathlib.Core.Path.{_≡_, refl, sym, ap, subst, _∙_}
 use mathlib.Core.Logic.{_≢_}
-use mathlib.Core.List.{List, [], _∷_}
-use Prim.Native.Nat.{ℕ, zero, suc, _+_, _-_, _*_, _≤_, _<_}
+use mathlib.Core.List.{List}
+use Prim.Native.Nat.{ℕ, zero, suc, _+_, _-_, _≤_, _<_}
 use native.Mathlib.Omega.{arith}
 use native.Mathlib.Decide.{decLt, ℕ-discrete}
 use lib.ListN.{length, getD, set, replicate}
@@ -10,7 +10,7 @@ use lib.Seq.{getD-set-same, getD-set-other}
 use Rattle.theory.specs.Circuits.{Fresh, Distinct}
 use Rattle.theory.proofs.Pigeon.{Below, pigeon}
 use Rattle.rounds.specs.Rounds.{span}
-use Rattle.ask.specs.Ways.{departureOf, Names, markAt, way, Led, Ready, Found, Least, part}
+use Rattle.ask.specs.Ways.{departureOf, Names, Shown, markAt, way, Led, Found, Least, part}
 
 -- ---- numbers of a list by their places
 pub part-length : (xs : List ℕ) (m a : ℕ) → length (part xs a m) ≡ m
@@ -205,8 +205,9 @@ zero-at (suc n) zero = refl
 zero-at (suc n) (suc i) = zero-at n i
 
 -- the marks of a closed way name records
-pub found-names : (kinds tos froms marks : List ℕ) (n positions N v : ℕ) (path node : List ℕ) (low high : ℕ) → Led kinds tos froms marks n positions N v → Found (departureOf kinds tos froms n positions) marks N v path node low high
-    → (i : ℕ) → low ≤ i → i < high → Names kinds tos froms n positions (getD path i 0)
-found-names kinds tos froms marks n positions N v path node low high led f i h l =
+pub found-shown : (kinds tos froms marks : List ℕ) (n positions N v : ℕ) (path node : List ℕ) (low high : ℕ) → Led kinds tos froms marks n positions N v → Found (departureOf kinds tos froms n positions) marks N v path node low high
+    → (i : ℕ) → low ≤ i → i < high → Shown kinds tos froms (getD path i 0)
+found-shown kinds tos froms marks n positions N v path node low high led f i h l =
     let e : N - suc (N - suc i) ≡ i = omega (arith, f .within) in
-    rw (f .paths i h l) (subst (λ (x : ℕ). Names kinds tos froms n positions (markAt marks x (way (departureOf kinds tos froms n positions) marks N v (N - suc i)))) e (led .named (N - suc i) (omega (arith, f .within))))
+    let m = subst (λ (x : ℕ). Names kinds tos froms n positions (markAt marks x (way (departureOf kinds tos froms n positions) marks N v (N - suc i)))) e (led .named (N - suc i) (omega (arith, f .within))) in
+    rw (f .paths i h l) (record { some = m .some; position = omega (arith, m .position, m .limits .few-positions); kinds-long = m .kinds-long; tos-long = m .tos-long; froms-long = m .froms-long })

@@ -4,26 +4,26 @@ use mathlib.Core.Path.{_≡_, refl, sym, ap, ap₂, subst, _∙_}
 use mathlib.Core.List.{List, [], _∷_, _++_, map}
 use Prim.Native.Nat.{ℕ, zero, suc, _+_, _-_, _*_, _≤_, _<_}
 use native.Mathlib.Omega.{arith}
-use lib.ListN.{length, getD, drop, length-append}
+use lib.ListN.{length, getD, drop, length-append, length-map}
 use lib.Seq.{sets, sets-eq}
 use Rattle.theory.specs.Arcs.{Arc, rise, fall, table}
 use Rattle.theory.specs.Circuits.{Walk, departures, Circuit, total, Smallest, FirstSmallest, Above}
 use Rattle.theory.proofs.Rounds.{table-mono}
 use Rattle.theory.proofs.Walks.{Rises}
-use Rattle.theory.proofs.Turning.{circuit-turn, total-turn, map-append}
+use Rattle.theory.proofs.Turning.{circuit-turn, total-turn, map-append, smallest-join, departures-append}
 use Rattle.tables.specs.Sheets.{Sheet}
 use Rattle.tables.proofs.Laws.{Admitted}
 use Rattle.windows.specs.Windows.{number}
 use Rattle.windows.specs.Arcs.{nodes, arcs}
 use Rattle.windows.specs.Circuits.{Step, numbers, stepArc, Valid, AllValid, Refutes}
-use Rattle.windows.proofs.Steps.{valid-in}
+use Rattle.windows.proofs.Steps.{valid-in, valid-join}
 use Rattle.layout.specs.Records.{Lists, Room, Modes}
-use Rattle.rounds.specs.Rounds.{span, walked, Told, Rose, Ran}
+use Rattle.rounds.specs.Rounds.{span, walked, Told, Rose}
 use Rattle.ask.specs.Ask.{Shows}
-use Rattle.ask.specs.Ways.{recordOf, departureOf, markAt, way, Found, Least, quads, part, Turned, Traced}
+use Rattle.ask.specs.Ways.{recordOf, departureOf, way, Found, Least, quads, part, Turned}
 use Rattle.ask.proofs.Backs.{part-length, part-distinct}
-use Rattle.ask.proofs.Writing.{sets-append, quads-append, quads-length}
-use Rattle.ask.proofs.Tracing.{stepOf, Stepped, Back, Level, level, back-of, way-of}
+use Rattle.ask.proofs.Writing.{sets-append, quads-length}
+use Rattle.ask.proofs.Tracing.{stepOf, level, back-of, way-of}
 
 part-split : (xs : List ℕ) (m k j a e : ℕ) → m + k ≡ j → a + m ≡ e → part xs a j ≡ part xs a m ++ part xs e k
 unfolding span
@@ -36,28 +36,12 @@ unfolding span
 smallest-part x xs zero a e q h = tt
 smallest-part x xs (suc m) a e q h = (h a (omega arith) (omega arith), smallest-part x xs m (suc a) e (omega arith) (λ k l. h k (omega arith)))
 
-smallest-join : (v : ℕ) (xs ys : List ℕ) → Smallest v xs → Smallest v ys → Smallest v (xs ++ ys)
-smallest-join v [] ys s t = t
-smallest-join v (x ∷ xs) ys s t = (s .0, smallest-join v xs ys (s .1) t)
-
 -- a list begun at its smallest number
 first-part : (xs : List ℕ) (low high p : ℕ) → Least xs low high p → (ys : List ℕ) → Smallest (getD xs p 0) ys → (m : ℕ) → p + m ≡ high → FirstSmallest (part xs p m ++ ys)
 unfolding span
 first-part xs low high p l ys h zero e = absurd (omega (arith, l .below))
 first-part xs low high p l ys h (suc m) e =
     smallest-join (getD xs p 0) (part xs (suc p) m) ys (smallest-part (getD xs p 0) xs m (suc p) high (omega arith) (λ k a b. l .least k (omega (arith, l .from)) b)) h
-
-map-length : {A B : Type 0} (f : A → B) (xs : List A) → length (map f xs) ≡ length xs
-map-length f [] = refl
-map-length f (x ∷ xs) = ap suc (map-length f xs)
-
-departures-append : (c d : List Arc) → departures (c ++ d) ≡ departures c ++ departures d
-departures-append [] d = refl
-departures-append (a ∷ c) d = ap (λ (l : List ℕ). a .departure ∷ l) (departures-append c d)
-
-valid-join : (s : Sheet) (cs ds : List Step) → AllValid s cs → AllValid s ds → AllValid s (cs ++ ds)
-valid-join s [] ds v w = w
-valid-join s (c ∷ cs) ds v w = (v .0, valid-join s cs ds (v .1) w)
 
 module _ (s : Sheet) (p q : ℕ) (kinds tos froms path node : List ℕ) where
   abbrev step : ℕ → Step
@@ -111,7 +95,7 @@ module _ (s : Sheet) (p q : ℕ) (kinds tos froms path node : List ℕ) where
   ring-sum (suc m) a e q h = omega (arith, h a (omega arith) (omega arith) .exact, ring-sum m (suc a) e (omega arith) (λ j x. h j (omega arith)))
 
   ring-length : (m a : ℕ) → length (arcsOf a m) ≡ m
-  ring-length m a = map-length (stepArc s) (ring a m) ∙ map-length step (part path a m) ∙ part-length path m a
+  ring-length m a = length-map (ring a m) (stepArc s) ∙ length-map (part path a m) step ∙ part-length path m a
 
 numbers-append : (cs ds : List Step) → numbers (cs ++ ds) ≡ numbers cs ++ numbers ds
 numbers-append [] ds = refl
@@ -209,8 +193,8 @@ module _ (s : Sheet) (p q : ℕ) (kinds tos froms path node : List ℕ) (low hig
         arith,
         least .from,
         least .below,
-        map-length (stepOf kinds tos froms) (part path x (high - x)),
-        map-length (stepOf kinds tos froms) (part path low (x - low)),
+        length-map (part path x (high - x)) (stepOf kinds tos froms),
+        length-map (part path low (x - low)) (stepOf kinds tos froms),
         part-length path (high - x) x,
         part-length path (x - low) low,
       )

@@ -1,7 +1,7 @@
 -- What the rounds over a sheet's list came to, once it is written, is the outcome: the earliest plan, or a refutation.
-use mathlib.Core.Path.{_≡_, refl, sym, ap, subst, _∙_}
+use mathlib.Core.Path.{_≡_, refl}
 use mathlib.Core.List.{List}
-use Prim.Native.Nat.{ℕ, suc, _+_, _-_, _*_, _≤_, _<_}
+use Prim.Native.Nat.{ℕ, _*_, _≤_, _<_}
 use native.Mathlib.Omega.{arith}
 use lib.ListN.{length}
 use Rattle.tables.specs.Sheets.{Sheet}
@@ -10,7 +10,7 @@ use Rattle.windows.specs.Arcs.{nodes}
 use Rattle.layout.specs.Records.{Lists, Room, Modes}
 use Rattle.rounds.specs.Rounds.{Named, walked, Rose, Told, Ran}
 use Rattle.ask.specs.Ask as ask
-use Rattle.ask.specs.Ask.{Answer, Accepts, Shows, askRefusal, Outcome}
+use Rattle.ask.specs.Ask.{Answer, askRefusal, Outcome}
 use Rattle.ask.specs.Answers.{Ends, Finishes, Settles}
 use Rattle.ask.proofs.Tracing.{led}
 use Rattle.ask.proofs.Circuits.{shows}

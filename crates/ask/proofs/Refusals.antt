@@ -1,9 +1,9 @@
 -- The refusals in their order, and what a call that is not refused may rest on.
 use mathlib.Core.Path.{_≡_, refl, sym, ap, _∙_}
 use mathlib.Core.Logic.{_≢_}
-use mathlib.Core.Bool.{Bool, true, false, _&&_}
+use mathlib.Core.Bool.{Bool, true, false}
 use mathlib.Core.List.{List}
-use Prim.Native.Nat.{ℕ, zero, suc, _+_, _*_, _≤_, _<_}
+use Prim.Native.Nat.{ℕ, zero, suc, _*_, _≤_}
 use native.Mathlib.Omega.{arith}
 use borrow.Author.Tests.{leb-true}
 use lib.Dec.{leb}
@@ -11,7 +11,6 @@ use lib.ListN.{length}
 use Rattle.tables.specs.Sheets.{Sheet, within, unless, refusal, otherwise}
 use Rattle.tables.proofs.Laws.{both, within-is, Admitted, accepted}
 use Rattle.windows.specs.Arcs.{nodes}
-use Rattle.windows.proofs.Limits.{nodes-few}
 use Rattle.rounds.specs.Rounds.{Limits}
 use Rattle.ask.specs.Ask.{timed, roomy, askRefusal}
 

@@ -3,29 +3,29 @@
 use mathlib.Core.Path.{_≡_, refl, sym, ap, ap₂, subst, _∙_}
 use mathlib.Core.Logic.{_≢_}
 use mathlib.Core.Bool.{Bool, true, false}
-use mathlib.Core.List.{List, [], _∷_, _++_}
-use Prim.Native.Nat.{ℕ, zero, suc, pred, _+_, _-_, _*_, _/_, _%_, _≤_, _<_}
+use mathlib.Core.List.{List}
+use Prim.Native.Nat.{ℕ, zero, suc, _+_, _-_, _*_, _≤_, _<_}
 use native.Mathlib.Omega.{arith}
 use native.Mathlib.Nat.{mod-eq-of-lt}
 use lib.Dec.{eqb}
 use lib.IntN.{ℤ}
 use lib.ListN.{length, getD}
-use Rattle.theory.specs.Arcs.{Arc, _∈_, rise, fall, table}
-use Rattle.theory.proofs.Rounds.{Cause, table-grows}
+use Rattle.theory.specs.Arcs.{rise, fall, table}
 use Rattle.theory.proofs.Walks.{Rises, departure-rises}
 use Rattle.tables.specs.Sheets.{Sheet}
 use Rattle.tables.proofs.Laws.{Admitted}
-use Rattle.windows.specs.Windows.{Kind, A0, B0, A1, B1, number, Window, Has, mode}
+use Rattle.windows.specs.Windows.{number, Has, mode}
 use Rattle.windows.specs.Arcs.{arc, arcOf, arcs, nodes}
-use Rattle.windows.specs.Circuits.{Step, limit, stepArc, Valid}
+use Rattle.windows.specs.Circuits.{Step, stepArc, Valid}
 use Rattle.windows.proofs.Laying.{arcs-within}
 use Rattle.windows.proofs.Limits.{nodes-few}
 use Rattle.windows.proofs.Steps.{valid-in}
 use Rattle.layout.specs.declared.Edge.{Edge}
-use Rattle.layout.specs.Records.{Item, entry, item, kindOf, Lists, itemAt, Room, Modes}
+use Rattle.layout.specs.Records.{Item, entry, kindOf, Lists, itemAt, Room, Modes}
 use Rattle.layout.specs.Edges.{byKind, edgeOf}
+use Rattle.layout.proofs.Windows.{kind-back}
 use Rattle.rounds.specs.declared.Stand.{Stand}
-use Rattle.rounds.specs.Rounds.{Named, pick, standOf, walked, tableOf, Limits, Told, Rose, Ran}
+use Rattle.rounds.specs.Rounds.{Named, pick, standOf, walked, Limits, Told, Rose}
 use Rattle.rounds.proofs.Sheets.{weighed, Source, source, table-is}
 use Rattle.ask.specs.Ways.{positionOf, recordOf, departureOf, Names, markAt, way, Led}
 
@@ -56,12 +56,6 @@ stand-same g n positions p = go (eqb (g + 1) positions)
         ≡ pick {A = Stand} b (record { here = g * n; next = 0; cross = 0; mark = g * 4608 }) (record { here = g * n; next = (g + 1) * n; cross = 0; mark = g * 4608 }) .next)
     go true = (refl, refl)
     go false = (refl, refl)
-
-pub kind-back : (k : Kind) → kindOf (number k) ≡ k
-kind-back A0 = refl
-kind-back B0 = refl
-kind-back A1 = refl
-kind-back B1 = refl
 
 -- the step that a mark names
 abbrev pub stepOf : (kinds tos froms : List ℕ) → ℕ → Step

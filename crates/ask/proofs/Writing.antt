@@ -1,12 +1,14 @@
 -- Four numbers an arc, written one arc after the other.
-use mathlib.Core.Path.{_≡_, refl, sym, ap, ap₂, _∙_}
+use mathlib.Core.Path.{_≡_, refl, sym, ap, _∙_}
 use mathlib.Core.List.{List, [], _∷_, _++_}
-use Prim.Native.Nat.{ℕ, zero, suc, _+_, _-_, _*_, _≤_, _<_}
+use Prim.Native.Nat.{ℕ, suc, _+_, _*_, _<_}
 use native.Mathlib.Omega.{arith}
 use native.Mathlib.Decide.{decLt}
-use lib.ListN.{length, getD, set, drop, length-append, length-set}
-use lib.Seq.{sets, sets-eq, getD-set-same, getD-set-other, drop-set-lt}
+use lib.ListN.{length, getD, set, drop, length-set}
+use lib.Seq.{sets, getD-set-same, getD-set-other, drop-set-lt}
 use Rattle.rounds.specs.Rounds.{span}
+use Rattle.rounds.proofs.Folds.{span-snoc}
+use Rattle.ask.proofs.Backs.{part-length}
 use Rattle.ask.specs.Ways.{quad, quads, part, Filled}
 
 pub sets-append : (xs ys l : List ℕ) (i k : ℕ) → i + length xs ≡ k → sets (sets l i xs) k ys ≡ sets l i (xs ++ ys)
@@ -31,16 +33,6 @@ module _ (kinds tos froms : List ℕ) where
   quads-length [] = refl
   quads-length (x ∷ xs) = omega (arith, quads-length xs)
 
-span-snoc : (f : ℕ → ℕ) (m a k : ℕ) → a + m ≡ k → span f a (suc m) ≡ span f a m ++ f k ∷ []
-unfolding span
-span-snoc f zero a k e = let h : a ≡ k = omega arith in rw h
-span-snoc f (suc m) a k e = ap (λ (l : List ℕ). f a ∷ l) (span-snoc f m (suc a) k (omega arith))
-
-span-length : (f : ℕ → ℕ) (m a : ℕ) → length (span f a m) ≡ m
-unfolding span
-span-length f zero a = refl
-span-length f (suc m) a = ap suc (span-length f m (suc a))
-
 module _ (kinds tos froms path : List ℕ) (a at : ℕ) (old : List ℕ) where
   pub write-none : old ≡ sets old (at * 4) (quads kinds tos froms (part path a 0))
   unfolding span quads
@@ -53,7 +45,7 @@ module _ (kinds tos froms path : List ℕ) (a at : ℕ) (old : List ℕ) where
   write-more j out new e h =
       h
       ∙ ap (λ (l : List ℕ). sets l ((at + j) * 4) (quad kinds tos froms (getD path (a + j) 0))) e
-      ∙ sets-append (quads kinds tos froms (part path a j)) (quad kinds tos froms (getD path (a + j) 0)) old (at * 4) ((at + j) * 4) (omega (arith, quads-length kinds tos froms (part path a j), span-length (λ i. getD path i 0) j a))
+      ∙ sets-append (quads kinds tos froms (part path a j)) (quad kinds tos froms (getD path (a + j) 0)) old (at * 4) ((at + j) * 4) (omega (arith, quads-length kinds tos froms (part path a j), part-length path j a))
       ∙ ap (sets old (at * 4)) (sym (quads-append kinds tos froms (part path a j) (getD path (a + j) 0 ∷ [])))
       ∙ ap (λ (l : List ℕ). sets old (at * 4) (quads kinds tos froms l)) (sym (span-snoc (λ i. getD path i 0) j a (a + j) refl))
       ∙ ap (λ (m : ℕ). sets old (at * 4) (quads kinds tos froms (part path a m))) (omega arith)

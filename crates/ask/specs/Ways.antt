@@ -35,6 +35,14 @@ pub record Names (kinds tos froms : List ℕ) (n positions mark : ℕ) : Type 0 
   pub to-first : 1 ≤ getD tos (recordOf mark) 0
   pub from-first : 1 ≤ getD froms (recordOf mark) 0
 
+-- the four numbers of the marked arc can be read and written
+pub record Shown (kinds tos froms : List ℕ) (mark : ℕ) : Type 0 where
+  pub some : 1 ≤ mark
+  pub position : positionOf mark < 16
+  pub kinds-long : recordOf mark < length kinds
+  pub tos-long : recordOf mark < length tos
+  pub froms-long : recordOf mark < length froms
+
 -- the mark of u in row r
 abbrev pub markAt : List ℕ → ℕ → ℕ → ℕ
 markAt marks r u = getD marks (r * 192 + u) 0

@@ -7,7 +7,7 @@ ghost use Prim.Native.Nat.{ℕ, _+_, _-_, _*_, _≤_, _<_};
 ghost use lib.ListN.{length, getD, drop};
 ghost use lib.Seq.{sets};
 ghost use Rattle.tables.specs.Sheets.{sheet};
-ghost use Rattle.ask.specs.Ways.{departureOf, Names, Ready, Led, Found, Least, quads, part, Turned, Traced, Filled};
+ghost use Rattle.ask.specs.Ways.{departureOf, Names, Shown, Ready, Led, Found, Least, quads, part, Turned, Traced, Filled};
 ghost use mathlib.Core.Bool.{_&&_};
 ghost use lib.Dec.{leb};
 ghost use Rattle.layout.specs.Records.{lists, Room};
@@ -37,9 +37,9 @@ fn departure(kind: &[u8], to: &[u8], from: &[u8], n: usize, positions: usize, ma
 }
 
 // A part of a path that is closed: the levels from low on, below high.
-pub struct Stretch {
-    pub low: usize,
-    pub high: usize,
+struct Stretch {
+    low: usize,
+    high: usize,
 }
 
 // Goes back from the node v, which the last round raised, by the arc that each mark names, one row at a time, until a node is met again.
@@ -106,15 +106,13 @@ fn write(
     kind: &[u8],
     to: &[u8],
     from: &[u8],
-    n: usize,
-    positions: usize,
     path: &[u32],
     a: usize,
     m: usize,
     circuit: &mut [u8],
     at: usize,
 )
-    requires { ⌜ (a + m ≤ length (now path)) × ((at + m) * 4 ≤ length (now circuit)) × (at + m ≤ 192) × ((i : ℕ) → a ≤ i → i < a + m → Names (now kind) (now to) (now from) n positions (getD (now path) i 0)) ⌝ }
+    requires { ⌜ (a + m ≤ length (now path)) × ((at + m) * 4 ≤ length (now circuit)) × (at + m ≤ 192) × ((i : ℕ) → a ≤ i → i < a + m → Shown (now kind) (now to) (now from) (getD (now path) i 0)) ⌝ }
     ensures { λ _. ⌜ now (circuit .exit) ≡ sets (now (circuit .entry)) (at * 4) (quads (now (kind .entry)) (now (to .entry)) (now (from .entry)) (part (now (path .entry)) a m)) ⌝ }
 {
     let mut j: usize = 0;
@@ -132,31 +130,18 @@ fn turn(
     kind: &[u8],
     to: &[u8],
     from: &[u8],
-    n: usize,
-    positions: usize,
     path: &[u32],
     node: &[u8],
     low: usize,
     high: usize,
     circuit: &mut [u8],
 )
-    requires { ⌜ (low < high) × (high ≤ 192) × (high ≤ length (now path)) × (high ≤ length (now node)) × ((high - low) * 4 ≤ length (now circuit)) × ((i : ℕ) → low ≤ i → i < high → Names (now kind) (now to) (now from) n positions (getD (now path) i 0)) ⌝ }
+    requires { ⌜ (low < high) × (high ≤ 192) × (high ≤ length (now path)) × (high ≤ length (now node)) × ((high - low) * 4 ≤ length (now circuit)) × ((i : ℕ) → low ≤ i → i < high → Shown (now kind) (now to) (now from) (getD (now path) i 0)) ⌝ }
     ensures { λ _. ⌜ Turned (now (kind .entry)) (now (to .entry)) (now (from .entry)) (now (path .entry)) (now (node .entry)) low high (now (circuit .entry)) (now (circuit .exit)) ⌝ }
 {
     let p = least(node, low, high);
-    write(kind, to, from, n, positions, path, p, high - p, circuit, 0);
-    write(
-        kind,
-        to,
-        from,
-        n,
-        positions,
-        path,
-        low,
-        p - low,
-        circuit,
-        high - p,
-    );
+    write(kind, to, from, path, p, high - p, circuit, 0);
+    write(kind, to, from, path, low, p - low, circuit, high - p);
 }
 
 // Writes a circuit from the marks of the rounds into the buffer, and gives the count of its arcs.
@@ -192,18 +177,7 @@ fn refute(
     );
     let low = met.low;
     let high = met.high;
-    turn(
-        kind,
-        to,
-        from,
-        n,
-        positions,
-        &path,
-        &node,
-        low,
-        high,
-        circuit,
-    );
+    turn(kind, to, from, &path, &node, low, high, circuit);
     high - low
 }
 
@@ -292,7 +266,8 @@ fn solve(
     finish(kind, to, from, n, positions, marks, ended, plan, circuit)
 }
 
-// Makes the room of the work's own: the list of records, the modes' starts and a row of marks for each round.
+// Makes the room of the work's own: the list of records, the modes' starts and a row of marks for each round. These are 235,080 bytes
+// of stack; with the tables of the rounds and the way back a call has under 242,000, and may have 524,288.
 fn decide(
     n: usize,
     m: usize,

@@ -3,13 +3,13 @@ use mathlib.Core.Path.{_≡_, refl, sym, ap, _∙_}
 use mathlib.Core.Logic.{_≢_}
 use mathlib.Core.Bool.{Bool, true, false}
 use mathlib.Core.List.{List, [], _∷_, _++_}
-use Prim.Native.Nat.{ℕ, zero, suc, _+_, _-_, _*_, _/_, _%_, _≤_, _<_}
+use Prim.Native.Nat.{ℕ, zero, suc, _+_, _*_, _/_, _%_, _≤_, _<_}
 use native.Mathlib.Omega.{arith}
 use native.Mathlib.Nat.{mul-pos, div-lt-iff-lt-mul}
 use native.Mathlib.Decide.{decLt}
 use native.Mathlib.Numerals.{add-one}
 use lib.IntN.{ℤ, pos}
-use lib.ListN.{length, getD, set, length-append, length-set, List·getD-append}
+use lib.ListN.{length, getD, length-append, List·getD-append}
 use lib.Seq.{getD-set-same, getD-set-other, getD-append-seam}
 use Rattle.tables.specs.Sheets.{absent}
 use Rattle.windows.specs.Windows.{number, Window}
@@ -36,7 +36,7 @@ at-other s i x a h =
       getD-set-other (s .downs) i x (a .down) 0 h,
     )
 
-append-nil : {A : Type 0} (ws : List A) → ws ++ [] ≡ ws
+pub append-nil : {A : Type 0} (ws : List A) → ws ++ [] ≡ ws
 append-nil [] = refl
 append-nil {A} (w ∷ ws) = ap (λ (l : List A). w ∷ l) (append-nil ws)
 

@@ -1,15 +1,15 @@
 -- The records of all modes, one mode after the other: a mode's part more is laid behind those before it.
-use mathlib.Core.Path.{_≡_, refl, sym, ap, _∙_}
+use mathlib.Core.Path.{_≡_, sym, ap, _∙_}
 use mathlib.Core.List.{List}
-use Prim.Native.Nat.{ℕ, zero, suc, _+_, _-_, _*_, _≤_, _<_}
+use Prim.Native.Nat.{ℕ, suc, _+_, _-_, _*_, _≤_, _<_}
 use native.Mathlib.Omega.{arith}
 use native.Mathlib.Nat.{mul-le-mul, mul-le-mul-right}
-use native.Mathlib.Decide.{decLt, ℕ-discrete}
+use native.Mathlib.Decide.{ℕ-discrete}
 use native.Mathlib.Numerals.{add-one}
 use lib.IntN.{ℤ}
 use lib.ListN.{length, getD, set, take, drop, length-drop}
 use lib.Seq.{getD-set-same, getD-set-other, take-all}
-use Rattle.layout.specs.Records.{Lists, itemAt, modeWindows, Laid, Modes}
+use Rattle.layout.specs.Records.{Lists, modeWindows, Laid, Modes}
 use Rattle.layout.proofs.Laying.{windows-few}
 
 pub modes-none : (tables : List ℤ) (n q : ℕ) (l : Lists) (start : List ℕ) → 0 < length start → Modes tables n q l (set start 0 0) 0 0

@@ -1,7 +1,7 @@
 -- The windows laid out of a mode's part are the windows of the sheet's mode, in their order: the place of kind, to and from is
 -- (kind·n + to - 1)·n + from - 1, so rising places are rising kinds, then tos, then froms.
 use mathlib.Core.Path.{_≡_, refl, sym, ap, ap₂, _∙_}
-use mathlib.Core.List.{List, [], _∷_, _++_, append-assoc}
+use mathlib.Core.List.{List, [], _++_, append-assoc}
 use Prim.Native.Nat.{ℕ, zero, suc, _+_, _-_, _*_, _/_, _%_, _≤_, _<_}
 use native.Mathlib.Omega.{arith}
 use native.Mathlib.Nat.{mul-pos, mul-le-mul-right, mul-add-div-right, mul-add-mod-self-right, div-eq-of-lt, mod-eq-of-lt}
@@ -10,14 +10,11 @@ use lib.ListN.{length, getD, drop}
 use lib.Seq.{getD-drop}
 use Rattle.tables.specs.Sheets.{Sheet, noWindow, absent, place, places}
 use Rattle.windows.specs.Windows.{Kind, A0, B0, A1, B1, number, Window, entry}
-use Rattle.windows.specs.Arcs.{oneTo, each, kinds, unless, windowAt, windowsTo, windowsOf, windows}
+use Rattle.windows.specs.Arcs.{oneTo, each, unless, windowAt, windowsOf, windows}
 use Rattle.windows.proofs.Listed.{each-more}
 use Rattle.windows.proofs.Limits.{number-small, place-below, getD-any}
+use Rattle.layout.proofs.Laying.{append-nil}
 use Rattle.layout.specs.Records.{kindOf, windowOf, windowsIn, modeWindows}
-
-append-nil : {A : Type 0} (ws : List A) → ws ++ [] ≡ ws
-append-nil [] = refl
-append-nil {A} (w ∷ ws) = ap (λ (l : List A). w ∷ l) (append-nil ws)
 
 -- f 0, f 1, .., f (k - 1), joined
 upTo : {A : Type 0} → (ℕ → List A) → ℕ → List A
@@ -83,7 +80,7 @@ module _ (n k i j : ℕ) (to : i < n) (from : j < n) where
   from-at : (k * (n * n) + (i * n + j)) % n ≡ j
   from-at = ap (λ (x : ℕ). x % n) again ∙ mul-add-mod-self-right (k * n + i) n j ∙ mod-eq-of-lt from
 
-kind-back : (k : Kind) → kindOf (number k) ≡ k
+pub kind-back : (k : Kind) → kindOf (number k) ≡ k
 kind-back A0 = refl
 kind-back B0 = refl
 kind-back A1 = refl

@@ -1,5 +1,5 @@
 -- The arc of a record at a position, in the numbers that a round reads (document 01, "Arcs").
-use Prim.Native.Nat.{ℕ, zero, suc, _+_, _-_, _*_}
+use Prim.Native.Nat.{ℕ, zero, suc, _+_, _-_}
 use Rattle.layout.specs.declared.Edge.{Edge}
 use Rattle.layout.specs.Records.{Item}
 

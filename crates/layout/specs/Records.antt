@@ -2,7 +2,7 @@
 -- These definitions face the code: they say what stands where in the lists. proofs/Windows ties them to the windows of a sheet.
 use mathlib.Core.Path.{_≡_}
 use mathlib.Core.List.{List, [], _∷_, _++_}
-use Prim.Native.Nat.{ℕ, zero, suc, _+_, _-_, _*_, _/_, _%_, _≤_, _<_}
+use Prim.Native.Nat.{ℕ, zero, suc, _+_, _*_, _/_, _%_, _≤_, _<_}
 use lib.IntN.{ℤ, pos}
 use lib.ListN.{length, getD, set, drop}
 use Rattle.tables.specs.Sheets.{absent}

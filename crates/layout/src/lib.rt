@@ -132,31 +132,33 @@ pub fn edge_of(
     requires { ⌜ (1 ≤ to) × (1 ≤ from) × (here < 4096) × (next < 4096) × (up < 4294967296000) × (down < 4294967296000) × (cross < 4294967296000) ⌝ }
     ensures { λ r. ⌜ r ≡ edgeOf (entry kind to from up down) here next cross ⌝ }
 {
-    let i = to as usize;
-    let j = from as usize;
+    let to_here = here + to as usize - 1;
+    let from_here = here + from as usize - 1;
+    let to_next = next + to as usize - 1;
+    let crossed = down + cross;
     match kind {
         0 => Edge {
-            departure: here + j - 1,
-            arrival: here + i - 1,
+            departure: from_here,
+            arrival: to_here,
             rise: up,
             fall: down,
         },
         1 => Edge {
-            departure: here + i - 1,
-            arrival: here + j - 1,
+            departure: to_here,
+            arrival: from_here,
             rise: down,
             fall: up,
         },
         2 => Edge {
-            departure: here + j - 1,
-            arrival: next + i - 1,
+            departure: from_here,
+            arrival: to_next,
             rise: up,
-            fall: down + cross,
+            fall: crossed,
         },
         3 => Edge {
-            departure: next + i - 1,
-            arrival: here + j - 1,
-            rise: down + cross,
+            departure: to_next,
+            arrival: from_here,
+            rise: crossed,
             fall: up,
         },
         4..=255 => Edge {

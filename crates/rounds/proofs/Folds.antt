@@ -1,14 +1,13 @@
 -- A pass is a fold of `raise` over the records of a position; what each record's step rests on follows from what the pass is handed.
 use mathlib.Core.Path.{_≡_, refl, sym, ap, ap₂, _∙_}
-use mathlib.Core.Bool.{Bool, true, false}
 use mathlib.Core.List.{List, [], _∷_, _++_}
-use Prim.Native.Nat.{ℕ, zero, suc, _+_, _-_, _*_, _≤_, _<_}
+use Prim.Native.Nat.{ℕ, zero, suc, _+_, _-_, _≤_, _<_}
 use native.Mathlib.Omega.{arith}
 use borrow.Author.Tests.{lt-ltb, le-ltb}
 use lib.ListN.{length, getD, set}
 use Rattle.layout.specs.declared.Edge.{Edge}
 use Rattle.layout.specs.Records.{Item, Lists, itemAt}
-use Rattle.layout.specs.Edges.{byKind, edgeOf}
+use Rattle.layout.specs.Edges.{byKind}
 use Rattle.rounds.specs.declared.Stand.{Stand}
 use Rattle.rounds.specs.Rounds.{Named, named, Board, board, asks, raise, after, span, Able, Fine, Stands, Boards}
 
@@ -23,7 +22,7 @@ module _ (old : List ℕ) (row : ℕ) where
   unfolding after
   after-more xs x b = after-append xs (x ∷ []) b
 
-span-snoc : {A : Type 0} (f : ℕ → A) (m a k : ℕ) → a + m ≡ k → span f a (suc m) ≡ span f a m ++ f k ∷ []
+pub span-snoc : {A : Type 0} (f : ℕ → A) (m a k : ℕ) → a + m ≡ k → span f a (suc m) ≡ span f a m ++ f k ∷ []
 unfolding span
 span-snoc f zero a k e = let h : a ≡ k = omega arith in rw h
 span-snoc {A} f (suc m) a k e = ap (λ (l : List A). f a ∷ l) (span-snoc f m (suc a) k (omega arith))
@@ -108,3 +107,20 @@ module _ (old : List ℕ) (row : ℕ) (a : Named) (b : Board) (m : ℕ) (e : Edg
 
   pub raise-same : c ≤ getD (b .times) (e .arrival) 0 → b ≡ raise old row a b
   raise-same h = two old row b m e c ask h ∙ whole
+
+-- the boards of a step are as long as they were
+pub able-same : (a : Item) (at : Stand) (k : ℕ) (old new marks new′ marks′ : List ℕ) (row : ℕ) → Able a at k old new marks row → length new′ ≡ length new → length marks′ ≡ length marks → Able a at k old new′ marks′ row
+able-same a at k old new marks new′ marks′ row b p q =
+    let r = b .reach in
+    record {
+      to-first = b .to-first;
+      from-first = b .from-first;
+      here-few = b .here-few;
+      next-few = b .next-few;
+      up-small = b .up-small;
+      down-small = b .down-small;
+      cross-small = b .cross-small;
+      first-few = b .first-few;
+      few = b .few;
+      reach = record { departs = r .departs; arrives = omega (arith, r .arrives); marks-in = omega (arith, r .marks-in); sum-small = r .sum-small };
+    }

@@ -6,13 +6,12 @@ use Prim.Native.Nat.{ℕ, zero, suc, _+_, _-_, _*_, _≤_, _<_}
 use native.Mathlib.Omega.{arith}
 use native.Mathlib.Nat.{mul-le-mul-right, mul-le-mul}
 use native.Mathlib.Numerals.{add-one}
-use borrow.Author.Tests.{eqb-true, eqb-false}
+use borrow.Author.Tests.{eqb-false}
 use lib.Dec.{eqb}
-use lib.ListN.{length, getD}
-use Rattle.layout.specs.declared.Edge.{Edge}
+use lib.ListN.{getD}
 use Rattle.layout.specs.Records.{Lists, itemAt}
 use Rattle.rounds.specs.declared.Stand.{Stand}
-use Rattle.rounds.specs.Rounds.{Named, named, pick, standOf, Board, after, span, walked, Fine, Stands, Parts, Limits}
+use Rattle.rounds.specs.Rounds.{Named, named, pick, standOf, Board, after, span, walked, Stands, Parts, Limits}
 use Rattle.rounds.proofs.Folds.{Inside, fine-inside, after-append}
 
 pub nodes-small : (n positions p : ℕ) → Limits n positions p → positions * n ≤ 192

@@ -1,12 +1,12 @@
 -- The rounds over a sheet's list of records are the rounds over the sheet's arcs: each position's part of the list is the windows of its
 -- mode, and the arc of a record in numbers is the window's arc at p/q. So the tables are the theory's, and a mark names a window.
 use mathlib.Core.Path.{_≡_, refl, sym, ap, ap₂, _∙_, subst}
-use mathlib.Core.Logic.{_⊎_, inl, inr}
+use mathlib.Core.Logic.{inl, inr}
 use mathlib.Core.Bool.{Bool, true, false}
 use mathlib.Core.List.{List, [], _∷_, _++_, map, List·Memᴰ, List·Memᴰ·head, List·Memᴰ·tail, List·Memᴰ·not-nil, List·Memᴰ·append-cases}
 use Prim.Native.Nat.{ℕ, zero, suc, pred, _+_, _-_, _*_, _/_, _%_, _≤_, _<_, max}
 use native.Mathlib.Omega.{arith}
-use native.Mathlib.Nat.{mod-eq-of-lt, div-eq-of-lt, mod-self, div-self, mul-le-mul-right, mul-le-mul}
+use native.Mathlib.Nat.{mod-eq-of-lt, div-eq-of-lt, mod-self, div-self, mul-le-mul}
 use native.Mathlib.Decide.{ℕ-discrete, decLt}
 use native.Mathlib.Numerals.{add-one}
 use borrow.Author.Tests.{eqb-true, eqb-false}
@@ -25,7 +25,7 @@ use Rattle.layout.specs.Records.{Item, item, nothing, Lists, itemAt, Room, mode
 use Rattle.layout.specs.Edges.{edge, byKind, edgeOf}
 use Rattle.layout.proofs.Windows.{mode-windows}
 use Rattle.rounds.specs.declared.Stand.{Stand}
-use Rattle.rounds.specs.Rounds.{Named, named, pick, standOf, asks, span, walked, mostOf, tableOf, Fine, Parts, Limits}
+use Rattle.rounds.specs.Rounds.{Named, named, pick, standOf, asks, span, walked, mostOf, tableOf, Fine, Parts}
 
 -- ---- the arcs of the list and the arcs of the theory
 abbrev pub weighed : ℕ → ℕ → Arc → Edge

@@ -3,21 +3,18 @@
 use mathlib.Core.Path.{_≡_, refl, sym, ap, subst, _∙_}
 use mathlib.Core.Logic.{_≢_, _⊎_, inl, inr}
 use mathlib.Core.Bool.{Bool, true, false}
-use mathlib.Core.List.{List, [], _∷_, _++_, List·Memᴰ, List·Memᴰ·head, List·Memᴰ·tail}
+use mathlib.Core.List.{List, [], _∷_, List·Memᴰ, List·Memᴰ·head, List·Memᴰ·tail}
 use Prim.Native.Nat.{ℕ, zero, suc, _+_, _-_, _*_, _≤_, _<_, max}
 use native.Mathlib.Omega.{arith}
 use native.Mathlib.Decide.{ℕ-discrete, decLt}
 use native.Mathlib.Numerals.{add-one}
-use borrow.Author.Count.{below-more}
 use borrow.Author.Tests.{ltb-true, ltb-false}
 use lib.Dec.{ltb}
 use lib.ListN.{length, getD, set, length-set}
 use lib.Seq.{getD-set-same, getD-set-other}
 use Rattle.theory.specs.Arcs.{only}
 use Rattle.theory.proofs.Rounds.{only-yes, only-no}
-use Rattle.layout.specs.declared.Edge.{Edge}
 use Rattle.rounds.specs.Rounds.{Named, pick, Board, board, asks, raise, after, mostOf, tableOf, Boards, Differs, Told, Rose, Ran}
-use Rattle.rounds.proofs.Folds.{Inside}
 use Rattle.rounds.proofs.Places.{AllIn, all-in}
 
 -- the arc a explains the time at v

@@ -4,9 +4,9 @@
 ghost use mathlib.Core.Path.{_≡_};
 ghost use Prim.Native.Nat.{ℕ, _+_, _-_, _*_, _≤_, _<_};
 ghost use lib.ListN.{length, getD};
-ghost use Rattle.layout.specs.Records.{entry, lists, itemAt};
+ghost use Rattle.layout.specs.Records.{entry, lists, itemAt, Room};
 ghost use Rattle.layout.specs.Edges.{edgeOf};
-ghost use Rattle.rounds.specs.Rounds.{named, standOf, Able, board, raise, after, span, walked, Fine, Stands, Boards, Parts, Limits, Differs, Ran};
+ghost use Rattle.rounds.specs.Rounds.{named, standOf, Able, board, raise, after, span, walked, Boards, Parts, Limits, Differs, Ran};
 
 // Where a position stands: the places of its events and of the next position's, what crossing to that costs, and the first of its marks.
 pub struct Stand {
@@ -89,15 +89,13 @@ fn pass(
     down: &[u64],
     a: usize,
     e: usize,
-    n: usize,
-    nodes: usize,
     at: Stand,
     old: &[u64],
     new: &mut [u64],
     marks: &mut [u32],
     row: usize,
 )
-    requires { ⌜ (a ≤ e) × Fine (lists (now kind) (now to) (now from) (now up) (now down)) n e × Stands at n nodes × Boards (now old) (now new) (now marks) row nodes ⌝ }
+    requires { ⌜ (a ≤ e) × Room (lists (now kind) (now to) (now from) (now up) (now down)) e × ((k : ℕ) → k < e → Able (itemAt (lists (now kind) (now to) (now from) (now up) (now down)) k) at k (now old) (now new) (now marks) row) ⌝ }
     ensures { λ _. ⌜ board (now (new .exit)) (now (marks .exit)) ≡ after (now (old .entry)) row (span (λ k. named (itemAt (lists (now (kind .entry)) (now (to .entry)) (now (from .entry)) (now (up .entry)) (now (down .entry))) k) at k) a (e - a)) (board (now (new .entry)) (now (marks .entry))) ⌝ }
 {
     let mut k = a;
@@ -139,29 +137,13 @@ fn round(
     requires { ⌜ Limits n positions p × Parts (lists (now kind) (now to) (now from) (now up) (now down)) n (now start) (now schedule) positions × Boards (now old) (now new) (now marks) row (positions * n) ⌝ }
     ensures { λ _. ⌜ board (now (new .exit)) (now (marks .exit)) ≡ after (now (old .entry)) row (walked (lists (now (kind .entry)) (now (to .entry)) (now (from .entry)) (now (up .entry)) (now (down .entry))) (now (start .entry)) (now (schedule .entry)) n positions p positions) (board (now (new .entry)) (now (marks .entry))) ⌝ }
 {
-    let nodes = positions * n;
     let mut g: usize = 0;
     while g < positions {
         let t = schedule[g] as usize;
         let a = start[t];
         let e = start[t + 1];
         let at = stand_at(g, n, positions, p);
-        pass(
-            kind,
-            to,
-            from,
-            up,
-            down,
-            a,
-            e,
-            n,
-            nodes,
-            at,
-            old,
-            new,
-            marks,
-            row,
-        );
+        pass(kind, to, from, up, down, a, e, at, old, new, marks, row);
         g += 1;
     }
 }

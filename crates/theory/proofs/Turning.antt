@@ -41,7 +41,7 @@ distinct-swap [] ys d = subst Distinct (sym (append-none ys)) d
 distinct-swap (x ∷ xs) ys d =
     distinct-insert x ys xs (fresh-join x ys xs (fresh-back x xs ys (d .0)) (fresh-front x xs ys (d .0))) (distinct-swap xs ys (d .1))
 
-departures-append : (c d : List Arc) → departures (c ++ d) ≡ departures c ++ departures d
+pub departures-append : (c d : List Arc) → departures (c ++ d) ≡ departures c ++ departures d
 departures-append [] d = refl
 departures-append (a ∷ c) d = ap (λ (l : List ℕ). a .departure ∷ l) (departures-append c d)
 
@@ -70,7 +70,7 @@ smallest-less : (v u : ℕ) → v ≤ u → (xs : List ℕ) → Smallest u xs �
 smallest-less v u h [] s = tt
 smallest-less v u h (x ∷ xs) s = (omega arith, smallest-less v u h xs (s .1))
 
-smallest-join : (v : ℕ) (xs ys : List ℕ) → Smallest v xs → Smallest v ys → Smallest v (xs ++ ys)
+pub smallest-join : (v : ℕ) (xs ys : List ℕ) → Smallest v xs → Smallest v ys → Smallest v (xs ++ ys)
 smallest-join v [] ys s t = t
 smallest-join v (x ∷ xs) ys s t = (s .0, smallest-join v xs ys (s .1) t)
 

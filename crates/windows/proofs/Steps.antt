@@ -62,7 +62,7 @@ module _ (s : Sheet) where
   valid-back [] ds v = v
   valid-back (c ∷ cs) ds v = valid-back cs ds (v .1)
 
-  valid-join : (cs ds : List Step) → AllValid s cs → AllValid s ds → AllValid s (cs ++ ds)
+  pub valid-join : (cs ds : List Step) → AllValid s cs → AllValid s ds → AllValid s (cs ++ ds)
   valid-join [] ds v w = w
   valid-join (c ∷ cs) ds v w = (v .0, valid-join cs ds (v .1) w)
 

@@ -1,25 +1,19 @@
 -- The refusals in their order; what is not refused is decided.
-use mathlib.Core.Path.{_≡_, refl, sym, ap, _∙_}
-use mathlib.Core.Bool.{Bool, true, false}
-use Prim.Native.Nat.{ℕ, _*_, _≤_}
+use mathlib.Core.Path.{_≡_, refl, sym, _∙_}
+use mathlib.Core.Bool.{true}
+use Prim.Native.Nat.{_*_, _≤_}
 use native.Mathlib.Omega.{arith}
 use borrow.Author.Tests.{not-true, not-false}
 use Rattle.tables.specs.Sheets.{Sheet, sheet, refusal}
 use Rattle.tables.proofs.Laws.{accepted}
 use Rattle.windows.proofs.Limits.{nodes-few}
-use Rattle.ask.specs.Ask.{timed, roomy, askRefusal}
+use Rattle.ask.specs.Ask.{timed, askRefusal}
 use Rattle.ask.specs.Answers.{answer}
 use Rattle.ask.proofs.Refusals.{refused-sheet, refused-10, refused-9, refused-none}
 use Rattle.ask.proofs.Deciding.{outcome}
 use borrow.Author.Needs.{needs}
 use Rattle.ask.proofs.ask.Statement.{statement}
 use Rattle.ask.proofs.ask.Tie as tie
-use Rattle.ask.proofs.ask.Reads as reads
-use Rattle.ask.proofs.ask.Lts as lts
-use Rattle.ask.proofs.decide.Reads as decide-reads
-use Rattle.ask.proofs.is_roomy.Reads as is-roomy-reads
-use Rattle.ask.proofs.is_timed.Reads as is-timed-reads
-use Rattle.tables.proofs.judge.Reads as judge-reads
 
 abbrev S : tie.Start → Sheet
 S c = let a = c .args in sheet (a .n) (a .m) (a .positions) (a .tables .now) (a .schedule .now)

@@ -1,17 +1,12 @@
 -- The invariant: the levels from r on hold the way back, and each node above r has its level. The measure is the level.
-use Prim.Native.Nat.{ℕ, suc, _+_, _-_, _*_, _≤_, _<_}
-use mathlib.Core.Path.{_≡_, refl, sym, ap, _∙_}
-use mathlib.Core.List.{List}
+use Prim.Native.Nat.{_+_, _-_, _*_, _<_}
+use mathlib.Core.Path.{_≡_, refl, _∙_}
 use native.Mathlib.Omega.{arith}
-use lib.ListN.{length, getD, set, length-set}
-use Rattle.ask.specs.Ways.{departureOf, markAt}
+use lib.ListN.{length, getD, length-set}
 use Rattle.ask.proofs.Backs.{Trail, start-in, trail-none, trail-here, trail-found, trail-more, Turn, turn}
 use borrow.Author.Needs.{needs}
 use Rattle.ask.proofs.back.Statement.{statement}
 use Rattle.ask.proofs.back.Tie as tie
-use Rattle.ask.proofs.back.Reads as reads
-use Rattle.ask.proofs.back.Lts as lts
-use Rattle.ask.proofs.departure.Reads as departure-reads
 
 abbrev Inv-loop : tie.InvT-loop
 Inv-loop kind to from n positions marks nodes v path₀ node₀ seen₀ r₀ u₀ path node seen r u = (length path ≡ length path₀) × (length node ≡ length node₀) × (length seen ≡ length seen₀) × Trail kind to from marks n positions nodes v path node seen r u

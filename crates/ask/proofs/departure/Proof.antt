@@ -1,6 +1,6 @@
 -- The mark names a position and a record, whose arc is made.
-use mathlib.Core.Path.{_≡_, refl, sym, ap, subst, _∙_}
-use Prim.Native.Nat.{ℕ, _*_, _-_, _/_, _%_}
+use mathlib.Core.Path.{sym, ap, subst, _∙_}
+use Prim.Native.Nat.{_*_}
 use native.Mathlib.Omega.{arith}
 use lib.ListN.{getD}
 use Rattle.layout.specs.declared.Edge.{Edge}
@@ -13,10 +13,6 @@ use Rattle.ask.specs.Ways.{departureOf, recordOf, positionOf}
 use borrow.Author.Needs.{needs}
 use Rattle.ask.proofs.departure.Statement.{statement}
 use Rattle.ask.proofs.departure.Tie as tie
-use Rattle.ask.proofs.departure.Reads as reads
-use Rattle.ask.proofs.departure.Lts as lts
-use Rattle.layout.proofs.edge_of.Reads as edge-of-reads
-use Rattle.rounds.proofs.stand_at.Reads as stand-at-reads
 
 stood : (c : tie.After-stand-at) → let a = c .before .before .before .before .args in Stands (c .stand-at .result) (a .n) (a .positions * a .n)
 stood c = let s = c .before .before .before .before in let a = s .args in

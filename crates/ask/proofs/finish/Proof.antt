@@ -1,14 +1,8 @@
 -- Each branch writes by its callee's contract.
-use mathlib.Core.Path.{_≡_, refl}
 use native.Mathlib.Omega.{arith}
-use lib.ListN.{length}
 use borrow.Author.Needs.{needs}
 use Rattle.ask.proofs.finish.Statement.{statement}
 use Rattle.ask.proofs.finish.Tie as tie
-use Rattle.ask.proofs.finish.Reads as reads
-use Rattle.ask.proofs.finish.Lts as lts
-use Rattle.ask.proofs.refute.Reads as refute-reads
-use Rattle.ask.proofs.write_plan.Reads as write-plan-reads
 
 mul-nodes : tie.Need-mul-nodes
 mul-nodes c = search needs

@@ -1,11 +1,8 @@
 -- Each way is a case of the two tests.
-use native.Mathlib.Omega.{arith}
 use borrow.Author.Tests.{le-leb, lt-leb}
 use borrow.Author.Needs.{needs}
 use Rattle.ask.proofs.is_roomy.Statement.{statement}
 use Rattle.ask.proofs.is_roomy.Tie as tie
-use Rattle.ask.proofs.is_roomy.Reads as reads
-use Rattle.ask.proofs.is_roomy.Lts as lts
 
 mul-result : tie.Need-mul-result
 mul-result c = search needs

@@ -1,10 +1,7 @@
 -- Each way is a case of the three tests.
 use borrow.Author.Tests.{le-leb, lt-leb}
-use borrow.Author.Needs.{needs}
 use Rattle.ask.proofs.is_timed.Statement.{statement}
 use Rattle.ask.proofs.is_timed.Tie as tie
-use Rattle.ask.proofs.is_timed.Reads as reads
-use Rattle.ask.proofs.is_timed.Lts as lts
 
 returns : tie.Need-returns
 returns c = rw (lt-leb _ _ (c .if1 .taken))

@@ -1,17 +1,14 @@
 -- The invariant: p is the place of the smallest among the places passed. The measure is what is left.
-use Prim.Native.Nat.{ℕ, _+_, _-_, _≤_, _<_}
-use mathlib.Core.Path.{_≡_, refl, sym, ap, _∙_, subst}
+use Prim.Native.Nat.{ℕ, _-_, _≤_}
+use mathlib.Core.Path.{subst}
 use mathlib.Core.Logic.{⊎-elim}
 use native.Mathlib.Omega.{arith}
 use native.Mathlib.Nat.{le-antisymm}
-use lib.ListN.{length, getD}
 use Rattle.ask.specs.Ways.{Least}
 use Rattle.ask.proofs.Backs.{least-none, least-less, least-more}
 use borrow.Author.Needs.{needs}
 use Rattle.ask.proofs.least.Statement.{statement}
 use Rattle.ask.proofs.least.Tie as tie
-use Rattle.ask.proofs.least.Reads as reads
-use Rattle.ask.proofs.least.Lts as lts
 
 abbrev Inv-loop : tie.InvT-loop
 Inv-loop node low high p₀ k₀ p k = (k ≤ high) × Least node low k p

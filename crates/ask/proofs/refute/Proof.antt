@@ -1,16 +1,12 @@
 -- The way back is made in room of the work's own, and its closed stretch is written.
-use mathlib.Core.Path.{_≡_, refl, sym, ap, _∙_}
+use mathlib.Core.Path.{refl}
 use Prim.Native.Nat.{ℕ}
 use native.Mathlib.Omega.{arith}
-use lib.ListN.{length, length-replicate}
-use Rattle.ask.proofs.Backs.{zero-at, found-names}
+use lib.ListN.{length-replicate}
+use Rattle.ask.proofs.Backs.{zero-at, found-shown}
 use borrow.Author.Needs.{needs}
 use Rattle.ask.proofs.refute.Statement.{statement}
 use Rattle.ask.proofs.refute.Tie as tie
-use Rattle.ask.proofs.refute.Reads as reads
-use Rattle.ask.proofs.refute.Lts as lts
-use Rattle.ask.proofs.back.Reads as back-reads
-use Rattle.ask.proofs.turn.Reads as turn-reads
 
 slice-aggregate-back : tie.Need-slice-aggregate-back
 slice-aggregate-back c = search needs
@@ -47,7 +43,7 @@ turn-requires c κs = let b = c .before .before .before .before .before .before 
       omega (arith, f .within, s .pre .0 .few, k .0, length-replicate {A = ℕ} 192 0),
       omega (arith, f .within, s .pre .0 .few, k .1 .0, length-replicate {A = ℕ} 193 0),
       omega (arith, f .within, s .pre .1),
-      found-names (a .kind .now) (a .to .now) (a .from .now) (a .marks .now) (a .n) (a .positions) (a .nodes) (a .v) (x .0) (x .1 .0) (b .back .result .low) (b .back .result .high) (s .pre .0) f,
+      found-shown (a .kind .now) (a .to .now) (a .from .now) (a .marks .now) (a .n) (a .positions) (a .nodes) (a .v) (x .0) (x .1 .0) (b .back .result .low) (b .back .result .high) (s .pre .0) f,
     )
 
 sub-result : tie.Need-sub-result

@@ -1,7 +1,7 @@
 -- The list is laid out, the rounds run over it, and what is written is what the laws of acceptance and of circuits ask.
-use mathlib.Core.Path.{_≡_, refl, sym, ap, _∙_}
+use mathlib.Core.Path.{_∙_}
 use mathlib.Core.List.{List}
-use Prim.Native.Nat.{ℕ, _*_, _≤_, _<_}
+use Prim.Native.Nat.{ℕ, _<_}
 use native.Mathlib.Omega.{arith}
 use lib.ListN.{length, getD}
 use Rattle.tables.specs.Sheets.{Sheet, sheet}
@@ -15,11 +15,6 @@ use Rattle.ask.proofs.Deciding.{ends, settles}
 use borrow.Author.Needs.{needs}
 use Rattle.ask.proofs.solve.Statement.{statement}
 use Rattle.ask.proofs.solve.Tie as tie
-use Rattle.ask.proofs.solve.Reads as reads
-use Rattle.ask.proofs.solve.Lts as lts
-use Rattle.ask.proofs.finish.Reads as finish-reads
-use Rattle.layout.proofs.lay_out.Reads as lay-out-reads
-use Rattle.rounds.proofs.run.Reads as run-reads
 
 abbrev S : tie.Start → Sheet
 S c = let a = c .args in sheet (a .n) (a .m) (a .positions) (a .tables .now) (a .schedule .now)

@@ -1,5 +1,5 @@
 -- The two writes follow each other: the arcs from the smallest node on, then those before it.
-use mathlib.Core.Path.{_≡_, ap, _∙_}
+use mathlib.Core.Path.{ap, _∙_}
 use mathlib.Core.List.{List}
 use Prim.Native.Nat.{ℕ, _-_, _*_}
 use native.Mathlib.Omega.{arith}
@@ -8,10 +8,6 @@ use Rattle.ask.specs.Ways.{quads, part}
 use borrow.Author.Needs.{needs}
 use Rattle.ask.proofs.turn.Statement.{statement}
 use Rattle.ask.proofs.turn.Tie as tie
-use Rattle.ask.proofs.turn.Reads as reads
-use Rattle.ask.proofs.turn.Lts as lts
-use Rattle.ask.proofs.least.Reads as least-reads
-use Rattle.ask.proofs.write.Reads as write-reads
 
 least-requires : tie.Need-least-requires
 least-requires c κs = search needs
@@ -31,7 +27,7 @@ sub-write-3 c = search needs
 
 write-requires-2 : tie.Need-write-requires-2
 write-requires-2 c κs = let w = c .before .before .before in let l = w .before .before in let s = l .before .before .before .before .before .before .before in let m = l .least .ensures in
-    (omega (arith, m .below, m .from, s .pre .2), omega (arith, m .from, m .below, s .pre .4, w .write .kept .1 .1 .1 .1 .1 .1 .1 .1 .0), omega (arith, m .from, m .below, s .pre .1), (λ i h k. s .pre .5 i h (omega (arith, m .below))))
+    (omega (arith, m .below, m .from, s .pre .2), omega (arith, m .from, m .below, s .pre .4, w .write .kept .1 .1 .1 .1 .1 .1 .0), omega (arith, m .from, m .below, s .pre .1), (λ i h k. s .pre .5 i h (omega (arith, m .below))))
 
 same-length : tie.Need-same-length
 same-length c = search needs

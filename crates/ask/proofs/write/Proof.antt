@@ -1,30 +1,27 @@
 -- The invariant: the arcs passed are written. The measure is the arcs left.
-use Prim.Native.Nat.{ℕ, suc, _+_, _-_, _*_, _/_, _%_, _≤_, _<_}
-use mathlib.Core.Path.{_≡_, refl, sym, ap, _∙_}
+use Prim.Native.Nat.{ℕ, _+_, _-_, _*_, _≤_, _<_}
+use mathlib.Core.Path.{_≡_, refl, ap, _∙_}
 use native.Mathlib.Omega.{arith}
 use native.Mathlib.Nat.{le-antisymm}
 use lib.ListN.{length, getD}
-use lib.Seq.{sets, length-sets}
-use Rattle.ask.specs.Ways.{Names, quads, part}
+use lib.Seq.{sets}
+use Rattle.ask.specs.Ways.{Shown, quads, part}
 use Rattle.ask.proofs.Writing.{write-none, write-more}
 use borrow.Author.Needs.{needs}
 use Rattle.ask.proofs.write.Statement.{statement}
 use Rattle.ask.proofs.write.Tie as tie
-use Rattle.ask.proofs.write.Reads as reads
-use Rattle.ask.proofs.write.Lts as lts
-use Rattle.ask.proofs.write_arc.Reads as write-arc-reads
 
 abbrev Inv-loop : tie.InvT-loop
-Inv-loop kind to from n positions path a m circuit₀ at j₀ circuit j = (j ≤ m) × (length circuit ≡ length circuit₀) × (circuit ≡ sets circuit₀ (at * 4) (quads kind to from (part path a j)))
+Inv-loop kind to from path a m circuit₀ at j₀ circuit j = (j ≤ m) × (length circuit ≡ length circuit₀) × (circuit ≡ sets circuit₀ (at * 4) (quads kind to from (part path a j)))
 
 abbrev μ-loop : tie.MeasureT-loop
-μ-loop kind to from n positions path a m circuit₀ at j₀ circuit j = m - j
+μ-loop kind to from path a m circuit₀ at j₀ circuit j = m - j
 
 abbrev P : tie.At-loop Inv-loop μ-loop → tie.Start Inv-loop μ-loop
 P c = c .before .before .before .before .before .before
 
 -- the mark names a record at a position
-names : (c : tie.In-loop Inv-loop μ-loop) → let l = c .before in let a = P l .args in Names (a .kind .now) (a .to .now) (a .from .now) (a .n) (a .positions) (getD (a .path .now) (a .a + l .loop .j) 0)
+names : (c : tie.In-loop Inv-loop μ-loop) → let l = c .before in let a = P l .args in Shown (a .kind .now) (a .to .now) (a .from .now) (getD (a .path .now) (a .a + l .loop .j) 0)
 names c = let l = c .before in let s = P l in let h : l .loop .j < s .args .m = c .loop-test .taken in s .pre .3 (s .args .a + l .loop .j) (omega arith) (omega arith)
 
 loop-holds : tie.Need-loop-holds Inv-loop μ-loop
@@ -46,10 +43,10 @@ sub-number : tie.Need-sub-number Inv-loop μ-loop
 sub-number c = names (c .before) .some
 
 add-position : tie.Need-add-position Inv-loop μ-loop
-add-position c = let h = names (c .before) in omega (arith, h .position, h .limits .few-positions)
+add-position c = let h = names (c .before) in omega (arith, h .position)
 
 cast-position : tie.Need-cast-position Inv-loop μ-loop
-cast-position c = let h = names (c .before) in omega (arith, h .position, h .limits .few-positions)
+cast-position c = let h = names (c .before) in omega (arith, h .position)
 
 add-write-arc : tie.Need-add-write-arc Inv-loop μ-loop
 add-write-arc c = let l = c .before .before .before in omega (arith, P l .pre .2, c .before .before .loop-test .taken)

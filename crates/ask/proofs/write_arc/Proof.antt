@@ -1,12 +1,10 @@
 -- Four stores are a run of stores.
 use native.Mathlib.Omega.{arith}
-use lib.ListN.{length, length-set}
+use lib.ListN.{length-set}
 use Rattle.ask.proofs.Writing.{four}
 use borrow.Author.Needs.{needs}
 use Rattle.ask.proofs.write_arc.Statement.{statement}
 use Rattle.ask.proofs.write_arc.Tie as tie
-use Rattle.ask.proofs.write_arc.Reads as reads
-use Rattle.ask.proofs.write_arc.Lts as lts
 
 slice-write-circuit : tie.Need-slice-write-circuit
 slice-write-circuit c = search needs

@@ -1,15 +1,11 @@
 -- The invariant: the places passed are written. The measure is what is left.
-use Prim.Native.Nat.{ℕ, _+_, _-_, _≤_, _<_}
+use Prim.Native.Nat.{_-_, _≤_}
 use native.Mathlib.Omega.{arith}
 use native.Mathlib.Nat.{le-antisymm}
-use lib.ListN.{length, getD}
-use Rattle.ask.specs.Ways.{Filled}
 use Rattle.ask.proofs.Writing.{Filling, filling-none, filling-more, filled}
 use borrow.Author.Needs.{needs}
 use Rattle.ask.proofs.write_plan.Statement.{statement}
 use Rattle.ask.proofs.write_plan.Tie as tie
-use Rattle.ask.proofs.write_plan.Reads as reads
-use Rattle.ask.proofs.write_plan.Lts as lts
 
 abbrev Inv-loop : tie.InvT-loop
 Inv-loop times count plan₀ v₀ plan v = (v ≤ count) × Filling times count v plan₀ plan

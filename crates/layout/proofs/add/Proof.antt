@@ -1,7 +1,6 @@
 -- Where a window is, its five numbers are put at the next place; the place k names kind, to and from.
-use mathlib.Core.Path.{_≡_, refl, sym, ap, _∙_}
-use mathlib.Core.Bool.{Bool, true, false}
-use Prim.Native.Nat.{ℕ, _*_, _/_, _%_, _<_, _≤_}
+use mathlib.Core.Path.{sym, ap, _∙_}
+use Prim.Native.Nat.{ℕ, _*_, _/_, _≤_}
 use native.Mathlib.Omega.{arith}
 use native.Mathlib.Nat.{mod-lt, mul-le-mul}
 use Rattle.numbers.proofs.Signs.{passed}
@@ -13,11 +12,6 @@ use Rattle.layout.proofs.Laying.{kind-few, add-none, add-some}
 use borrow.Author.Needs.{needs}
 use Rattle.layout.proofs.add.Statement.{statement}
 use Rattle.layout.proofs.add.Tie as tie
-use Rattle.layout.proofs.add.Reads as reads
-use Rattle.layout.proofs.add.Lts as lts
-use Rattle.layout.proofs.lower.Reads as lower-reads
-use Rattle.layout.proofs.upper.Reads as upper-reads
-use Rattle.tables.proofs.is_absent.Reads as is-absent-reads
 
 abbrev S : tie.Start → Lists
 S c = let a = c .args in lists (a .kind .now) (a .to .now) (a .from .now) (a .up .now) (a .down .now)

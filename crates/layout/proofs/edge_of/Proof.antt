@@ -1,14 +1,12 @@
 -- Each arm makes the arc of its kind; a number past 3 is no kind.
 use native.Mathlib.Omega.{arith}
-use mathlib.Core.Path.{_≡_, refl, sym, ap, _∙_}
+use mathlib.Core.Path.{_≡_, refl}
 use Prim.Native.Nat.{ℕ, zero, suc, _≤_}
 use Rattle.layout.specs.Records.{Item}
 use Rattle.layout.specs.Edges.{byKind, edge}
 use borrow.Author.Needs.{needs}
 use Rattle.layout.proofs.edge_of.Statement.{statement}
 use Rattle.layout.proofs.edge_of.Tie as tie
-use Rattle.layout.proofs.edge_of.Reads as reads
-use Rattle.layout.proofs.edge_of.Lts as lts
 
 other : (k : ℕ) (a : Item) (here next cross : ℕ) → 4 ≤ k → edge 0 0 0 0 ≡ byKind k a here next cross
 unfolding byKind
@@ -18,59 +16,26 @@ other (suc (suc zero)) a here next cross h = absurd (omega arith)
 other (suc (suc (suc zero))) a here next cross h = absurd (omega arith)
 other (suc (suc (suc (suc k)))) a here next cross h = refl
 
-add-t12 : tie.Need-add-t12
-add-t12 c = search needs
+add-to-here : tie.Need-add-to-here
+add-to-here c = search needs
 
-sub-t13 : tie.Need-sub-t13
-sub-t13 c = search needs
+sub-to-here : tie.Need-sub-to-here
+sub-to-here c = search needs
 
-add-t14 : tie.Need-add-t14
-add-t14 c = search needs
+add-from-here : tie.Need-add-from-here
+add-from-here c = search needs
 
-sub-t15 : tie.Need-sub-t15
-sub-t15 c = search needs
+sub-from-here : tie.Need-sub-from-here
+sub-from-here c = search needs
 
-add-t16 : tie.Need-add-t16
-add-t16 c = search needs
+add-to-next : tie.Need-add-to-next
+add-to-next c = search needs
 
-sub-t17 : tie.Need-sub-t17
-sub-t17 c = search needs
+sub-to-next : tie.Need-sub-to-next
+sub-to-next c = search needs
 
-add-t18 : tie.Need-add-t18
-add-t18 c = search needs
-
-sub-t19 : tie.Need-sub-t19
-sub-t19 c = search needs
-
-add-t20 : tie.Need-add-t20
-add-t20 c = search needs
-
-sub-t21 : tie.Need-sub-t21
-sub-t21 c = search needs
-
-add-t22 : tie.Need-add-t22
-add-t22 c = search needs
-
-sub-t23 : tie.Need-sub-t23
-sub-t23 c = search needs
-
-add-t24 : tie.Need-add-t24
-add-t24 c = search needs
-
-add-t25 : tie.Need-add-t25
-add-t25 c = search needs
-
-sub-t26 : tie.Need-sub-t26
-sub-t26 c = search needs
-
-add-t27 : tie.Need-add-t27
-add-t27 c = search needs
-
-sub-t28 : tie.Need-sub-t28
-sub-t28 c = search needs
-
-add-t29 : tie.Need-add-t29
-add-t29 c = search needs
+add-crossed : tie.Need-add-crossed
+add-crossed c = search needs
 
 returns : tie.Need-returns
 unfolding byKind
@@ -95,24 +60,13 @@ pub edge-of-spec : {M : Type 1} → statement M
 edge-of-spec =
     tie.close
     (tie.spec
-    add-t12
-    sub-t13
-    add-t14
-    sub-t15
-    add-t16
-    sub-t17
-    add-t18
-    sub-t19
-    add-t20
-    sub-t21
-    add-t22
-    sub-t23
-    add-t24
-    add-t25
-    sub-t26
-    add-t27
-    sub-t28
-    add-t29
+    add-to-here
+    sub-to-here
+    add-from-here
+    sub-from-here
+    add-to-next
+    sub-to-next
+    add-crossed
     returns
     returns-2
     returns-3

@@ -1,10 +1,10 @@
 -- The invariant: the windows at the places passed are laid out from s on. The measure is what is left of the part.
-use mathlib.Core.Path.{_≡_, refl, sym, ap, _∙_, subst}
-use Prim.Native.Nat.{ℕ, _+_, _-_, _*_, _≤_, _<_}
+use mathlib.Core.Path.{refl, _∙_, subst}
+use Prim.Native.Nat.{ℕ, _+_, _-_, _*_, _≤_}
 use native.Mathlib.Omega.{arith}
 use native.Mathlib.Nat.{le-antisymm}
 use lib.IntN.{pos}
-use lib.ListN.{length, getD}
+use lib.ListN.{getD}
 use Rattle.numbers.proofs.Signs.{passed}
 use Rattle.tables.proofs.Laws.{square}
 use Rattle.layout.specs.Records.{Lists, lists, Room, Laid, windowsIn}
@@ -12,9 +12,6 @@ use Rattle.layout.proofs.Laying.{Same, same-none, room-next, laid-none,
 use borrow.Author.Needs.{needs}
 use Rattle.layout.proofs.lay_mode.Statement.{statement}
 use Rattle.layout.proofs.lay_mode.Tie as tie
-use Rattle.layout.proofs.lay_mode.Reads as reads
-use Rattle.layout.proofs.lay_mode.Lts as lts
-use Rattle.layout.proofs.add.Reads as add-reads
 
 abbrev Inv-loop : tie.InvT-loop
 Inv-loop part q n kind₀ to₀ from₀ up₀ down₀ s m w₀ k₀ kind to from up down w k = (k ≤ m) × Same (lists kind₀ to₀ from₀ up₀ down₀) (lists kind to from up down) × Laid q (windowsIn part n k) (lists kind₀ to₀ from₀ up₀ down₀) s (lists kind to from up down) w

@@ -1,19 +1,16 @@
 -- The invariant: the modes before t are laid out, and the starts and the lists have their lengths. The measure is the modes left.
-use mathlib.Core.Path.{_≡_, refl, sym, ap, _∙_, subst}
-use Prim.Native.Nat.{ℕ, _+_, _-_, _*_, _≤_, _<_}
+use mathlib.Core.Path.{_≡_, refl, _∙_}
+use Prim.Native.Nat.{_+_, _-_, _*_, _≤_}
 use native.Mathlib.Omega.{arith}
 use native.Mathlib.Nat.{le-antisymm}
-use lib.ListN.{length, getD, set, drop, length-set, length-drop}
+use lib.ListN.{length, length-set, length-drop}
 use Rattle.tables.proofs.Laws.{square}
-use Rattle.layout.specs.Records.{Lists, lists, Room, Laid, Modes, modeWindows}
+use Rattle.layout.specs.Records.{Lists, lists, Modes, modeWindows}
 use Rattle.layout.proofs.Laying.{Same, same-none, room-same}
 use Rattle.layout.proofs.Modes.{modes-none, modes-more, whole, Sizes, sizes, rest}
 use borrow.Author.Needs.{needs}
 use Rattle.layout.proofs.lay_out.Statement.{statement}
 use Rattle.layout.proofs.lay_out.Tie as tie
-use Rattle.layout.proofs.lay_out.Reads as reads
-use Rattle.layout.proofs.lay_out.Lts as lts
-use Rattle.layout.proofs.lay_mode.Reads as lay-mode-reads
 
 abbrev Inv-loop : tie.InvT-loop
 Inv-loop tables q n m kind₀ to₀ from₀ up₀ down₀ start₀ size w₀ t₀ kind to from up down start w t = (t ≤ m) × (length start ≡ length start₀) × Same (lists kind₀ to₀ from₀ up₀ down₀) (lists kind to from up down) × Modes tables n q (lists kind to from up down) start t w

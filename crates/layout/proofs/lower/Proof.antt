@@ -1,15 +1,12 @@
 -- The complement of the bits of a limit below 0 is one less than its size.
 use native.Mathlib.Omega.{arith}
-use mathlib.Core.Path.{_≡_, refl, sym, ap, _∙_}
-use Rattle.numbers.proofs.Signs.{flip, keep, is-neg, is-pos}
+use mathlib.Core.Path.{ap, _∙_}
+use Rattle.numbers.proofs.Signs.{flip, is-neg, is-pos}
 use native.Mathlib.Numerals.{add-one}
 use lib.Signed.{mag}
 use Rattle.windows.specs.Arcs.{down}
-use borrow.Author.Needs.{needs}
 use Rattle.layout.proofs.lower.Statement.{statement}
 use Rattle.layout.proofs.lower.Tie as tie
-use Rattle.layout.proofs.lower.Reads as reads
-use Rattle.layout.proofs.lower.Lts as lts
 
 cast-result : tie.Need-cast-result
 cast-result c = rw (flip (c .before .args .value) (c .before .fits .value) (c .if1 .taken)) (tt, omega (arith, c .before .fits .value .sfits))

@@ -1,13 +1,10 @@
 -- The bits of a limit that is not below 0 are the limit.
 use native.Mathlib.Omega.{arith}
-use mathlib.Core.Path.{_≡_, refl, sym, ap, _∙_}
-use Rattle.numbers.proofs.Signs.{flip, keep, is-neg, is-pos}
+use mathlib.Core.Path.{ap}
+use Rattle.numbers.proofs.Signs.{keep, is-neg, is-pos}
 use Rattle.windows.specs.Arcs.{up}
-use borrow.Author.Needs.{needs}
 use Rattle.layout.proofs.upper.Statement.{statement}
 use Rattle.layout.proofs.upper.Tie as tie
-use Rattle.layout.proofs.upper.Reads as reads
-use Rattle.layout.proofs.upper.Lts as lts
 
 cast-result : tie.Need-cast-result
 cast-result c = rw (keep (c .before .args .value) (c .before .fits .value) (c .if1 .left)) (tt, omega (arith, c .before .fits .value .sfits))

@@ -1,15 +1,12 @@
 -- The invariant: the tables agree at the places passed. The measure is what is left.
 use mathlib.Core.Path.{_≡_}
-use Prim.Native.Nat.{ℕ, _+_, _-_, _≤_, _<_}
+use Prim.Native.Nat.{ℕ, _-_, _≤_, _<_}
 use native.Mathlib.Omega.{arith}
 use borrow.Author.Count.{below-none, below-more}
-use lib.ListN.{length, getD}
-use Rattle.rounds.specs.Rounds.{Differs}
+use lib.ListN.{getD}
 use borrow.Author.Needs.{needs}
 use Rattle.rounds.proofs.differs.Statement.{statement}
 use Rattle.rounds.proofs.differs.Tie as tie
-use Rattle.rounds.proofs.differs.Reads as reads
-use Rattle.rounds.proofs.differs.Lts as lts
 
 abbrev Inv-loop : tie.InvT-loop
 Inv-loop xs ys n v₀ v = (v ≤ n) × ((k : ℕ) → k < v → getD xs k 0 ≡ getD ys k 0)

@@ -1,24 +1,21 @@
 -- The invariant: the boards are the fold over the records passed. The measure is what is left of the part.
-use mathlib.Core.Path.{_≡_, refl, sym, ap, subst, _∙_}
-use Prim.Native.Nat.{ℕ, _+_, _-_, _*_, _≤_, _<_}
+use mathlib.Core.Path.{_≡_, refl, ap, _∙_}
+use Prim.Native.Nat.{ℕ, _-_, _≤_}
 use native.Mathlib.Omega.{arith}
 use native.Mathlib.Nat.{le-antisymm}
-use lib.ListN.{length, getD}
+use lib.ListN.{length}
 use Rattle.layout.specs.Records.{Lists, lists, itemAt}
-use Rattle.rounds.specs.Rounds.{Named, named, Board, board, after, span, Able}
-use Rattle.rounds.proofs.Folds.{pass-none, pass-more, able, boards-same}
+use Rattle.rounds.specs.Rounds.{Named, named, board, after, span, Able}
+use Rattle.rounds.proofs.Folds.{pass-none, pass-more, able-same}
 use borrow.Author.Needs.{needs}
 use Rattle.rounds.proofs.pass.Statement.{statement}
 use Rattle.rounds.proofs.pass.Tie as tie
-use Rattle.rounds.proofs.pass.Reads as reads
-use Rattle.rounds.proofs.pass.Lts as lts
-use Rattle.rounds.proofs.step.Reads as step-reads
 
 abbrev Inv-loop : tie.InvT-loop
-Inv-loop kind to from up down a e n nodes at old new₀ marks₀ row k₀ new marks k = (a ≤ k) × (k ≤ e) × (length new ≡ length new₀) × (length marks ≡ length marks₀) × (board new marks ≡ after old row (span (λ k. named (itemAt (lists kind to from up down) k) at k) a (k - a)) (board new₀ marks₀))
+Inv-loop kind to from up down a e at old new₀ marks₀ row k₀ new marks k = (a ≤ k) × (k ≤ e) × (length new ≡ length new₀) × (length marks ≡ length marks₀) × (board new marks ≡ after old row (span (λ k. named (itemAt (lists kind to from up down) k) at k) a (k - a)) (board new₀ marks₀))
 
 abbrev μ-loop : tie.MeasureT-loop
-μ-loop kind to from up down a e n nodes at old new₀ marks₀ row k₀ new marks k = e - k
+μ-loop kind to from up down a e at old new₀ marks₀ row k₀ new marks k = e - k
 
 abbrev P : tie.At-loop Inv-loop μ-loop → tie.Start Inv-loop μ-loop
 P c = c .before .before .before .before .before .before .before .before .before
@@ -32,8 +29,7 @@ F c k = named (itemAt (L c) k) (c .args .at) k
 
 can : (c : tie.In-loop Inv-loop μ-loop) → let l = c .before in let s = P l in Able (itemAt (L s) (l .loop .k)) (s .args .at) (l .loop .k) (s .args .old .now) (l .loop .new) (l .loop .marks) (s .args .row)
 can c = let l = c .before in let s = P l in let a = s .args in
-    able (L s) (a .n) (a .e) (a .nodes) (a .at) (l .loop .k) (a .old .now) (l .loop .new) (l .loop .marks) (a .row) (s .pre .1) (s .pre .2)
-    (boards-same (a .old .now) (a .new .now) (a .marks .now) (l .loop .new) (l .loop .marks) (a .row) (a .nodes) (s .pre .3) (l .loop .inv .2) (l .loop .inv .3)) (c .loop-test .taken)
+    able-same (itemAt (L s) (l .loop .k)) (a .at) (l .loop .k) (a .old .now) (a .new .now) (a .marks .now) (l .loop .new) (l .loop .marks) (a .row) (s .pre .2 (l .loop .k) (c .loop-test .taken)) (l .loop .inv .2) (l .loop .inv .3)
 
 loop-holds : tie.Need-loop-holds Inv-loop μ-loop
 loop-holds c = let s = c .before .before .before .before .before .before .before .before in let a = s .args in

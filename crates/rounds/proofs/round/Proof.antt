@@ -4,24 +4,20 @@ use Prim.Native.Nat.{ℕ, _+_, _-_, _*_, _≤_, _<_}
 use native.Mathlib.Omega.{arith}
 use native.Mathlib.Nat.{le-antisymm}
 use lib.ListN.{length, getD}
-use Rattle.layout.specs.Records.{Lists, lists, itemAt}
+use Rattle.layout.specs.Records.{Lists, lists}
 use Rattle.rounds.specs.declared.Stand.{Stand}
-use Rattle.rounds.specs.Rounds.{Named, named, Board, board, after, span, walked, Stands}
-use Rattle.rounds.proofs.Folds.{boards-same}
-use Rattle.rounds.proofs.Places.{nodes-small, stands, round-none, round-more}
+use Rattle.rounds.specs.Rounds.{board, after, walked, Stands}
+use Rattle.rounds.proofs.Folds.{able, boards-same}
+use Rattle.rounds.proofs.Places.{stands, round-none, round-more}
 use borrow.Author.Needs.{needs}
 use Rattle.rounds.proofs.round.Statement.{statement}
 use Rattle.rounds.proofs.round.Tie as tie
-use Rattle.rounds.proofs.round.Reads as reads
-use Rattle.rounds.proofs.round.Lts as lts
-use Rattle.rounds.proofs.pass.Reads as pass-reads
-use Rattle.rounds.proofs.stand_at.Reads as stand-at-reads
 
 abbrev Inv-loop : tie.InvT-loop
-Inv-loop kind to from up down start schedule n positions p old new₀ marks₀ row nodes g₀ new marks g = (g ≤ positions) × (length new ≡ length new₀) × (length marks ≡ length marks₀) × (board new marks ≡ after old row (walked (lists kind to from up down) start schedule n positions p g) (board new₀ marks₀))
+Inv-loop kind to from up down start schedule n positions p old new₀ marks₀ row g₀ new marks g = (g ≤ positions) × (length new ≡ length new₀) × (length marks ≡ length marks₀) × (board new marks ≡ after old row (walked (lists kind to from up down) start schedule n positions p g) (board new₀ marks₀))
 
 abbrev μ-loop : tie.MeasureT-loop
-μ-loop kind to from up down start schedule n positions p old new₀ marks₀ row nodes g₀ new marks g = positions - g
+μ-loop kind to from up down start schedule n positions p old new₀ marks₀ row g₀ new marks g = positions - g
 
 abbrev P : tie.At-loop Inv-loop μ-loop → tie.Start Inv-loop μ-loop
 P c = c .before .before .before .before .before .before .before .before .before .before .before
@@ -36,9 +32,6 @@ mode c = P (c .before) .pre .1 .mode (c .before .loop .g) (c .loop-test .taken)
 stood : (c : tie.After-stand-at Inv-loop μ-loop) → let l = c .before .before .before .before .before in let a = P l .args in Stands (c .stand-at .result) (a .n) (a .positions * a .n)
 stood c = let i = c .before .before .before .before in let l = i .before in let s = P l in let a = s .args in
     subst (λ (x : Stand). Stands x (a .n) (a .positions * a .n)) (sym (c .stand-at .ensures)) (stands (l .loop .g) (a .n) (a .positions) (a .p) (s .pre .0) (i .loop-test .taken))
-
-mul-nodes : tie.Need-mul-nodes Inv-loop μ-loop
-mul-nodes c = let s = c .before .before .before .before .before .before .before .before .before .before in omega (arith, nodes-small (s .args .n) (s .args .positions) (s .args .p) (s .pre .0))
 
 loop-holds : tie.Need-loop-holds Inv-loop μ-loop
 loop-holds c = let s = c .before .before .before .before .before .before .before .before .before .before in let a = s .args in
@@ -69,12 +62,14 @@ stand-at-requires : tie.Need-stand-at-requires Inv-loop μ-loop
 stand-at-requires c κs = let l = c .before .before .before .before in let s = P l in (c .before .before .before .loop-test .taken, s .pre .0 .few-positions, s .pre .0 .few-events)
 
 pass-requires : tie.Need-pass-requires Inv-loop μ-loop
-pass-requires c κs = let t = c .before .before in let i = t .before .before .before .before in let l = i .before in let s = P l in let a = s .args in (
-  s .pre .1 .rising (l .loop .g) (i .loop-test .taken),
-  s .pre .1 .fine (l .loop .g) (i .loop-test .taken),
-  stood t,
-  boards-same (a .old .now) (a .new .now) (a .marks .now) (l .loop .new) (l .loop .marks) (a .row) (a .positions * a .n) (s .pre .2) (l .loop .inv .1) (l .loop .inv .2),
-)
+pass-requires c κs = let t = c .before .before in let i = t .before .before .before .before in let l = i .before in let s = P l in let a = s .args in
+    let f = s .pre .1 .fine (l .loop .g) (i .loop-test .taken) in
+    let e = getD (a .start .now) (getD (a .schedule .now) (l .loop .g) 0 + 1) 0 in (
+      s .pre .1 .rising (l .loop .g) (i .loop-test .taken),
+      f .room,
+      (λ k h. able (L s) (a .n) e (a .positions * a .n) (t .stand-at .result) k (a .old .now) (l .loop .new) (l .loop .marks) (a .row) f (stood t)
+          (boards-same (a .old .now) (a .new .now) (a .marks .now) (l .loop .new) (l .loop .marks) (a .row) (a .positions * a .n) (s .pre .2) (l .loop .inv .1) (l .loop .inv .2)) h),
+    )
 
 add-g : tie.Need-add-g Inv-loop μ-loop
 add-g c = search needs
@@ -89,8 +84,8 @@ loop-again c = let r = c .before .before .before .before in
     let l = i .before in
     let s = P l in
     let a = s .args in
-    let x = r .pass .last .1 .1 .1 .1 .1 .1 .1 .1 .1 .1 .1 in
-    let k = r .pass .kept .1 .1 .1 .1 .1 .1 .1 .1 .1 .1 .1 in (
+    let x = r .pass .last .1 .1 .1 .1 .1 .1 .1 .1 .1 in
+    let k = r .pass .kept .1 .1 .1 .1 .1 .1 .1 .1 .1 in (
       omega (arith, i .loop-test .taken),
       k .0 ∙ l .loop .inv .1,
       k .1 .0 ∙ l .loop .inv .2,
@@ -114,7 +109,6 @@ round-spec =
     (tie.spec
     Inv-loop
     μ-loop
-    mul-nodes
     loop-holds
     shared-slice-read-t
     cast-t

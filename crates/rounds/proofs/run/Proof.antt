@@ -1,22 +1,17 @@
 -- The invariant: the times are table r, each round before changed something, and the marks name causes. The measure is the rounds left.
-use mathlib.Core.Path.{_≡_, refl, sym, ap, subst, _∙_}
+use mathlib.Core.Path.{_≡_, _∙_}
 use mathlib.Core.List.{List}
-use Prim.Native.Nat.{ℕ, _+_, _-_, _*_, _≤_, _<_}
+use Prim.Native.Nat.{ℕ, _-_, _*_, _≤_}
 use native.Mathlib.Omega.{arith}
 use native.Mathlib.Nat.{le-antisymm, mul-pos}
-use lib.ListN.{length, getD}
-use Rattle.layout.specs.Records.{Lists, lists}
-use Rattle.rounds.specs.Rounds.{Named, walked, Ran}
+use lib.ListN.{length}
+use Rattle.layout.specs.Records.{lists}
+use Rattle.rounds.specs.Rounds.{Named, walked}
 use Rattle.rounds.proofs.Places.{AllIn, nodes-small, walked-in}
 use Rattle.rounds.proofs.Tables.{Running, running-none, running-boards, running-more, ran-still, ran-all}
 use borrow.Author.Needs.{needs}
 use Rattle.rounds.proofs.run.Statement.{statement}
 use Rattle.rounds.proofs.run.Tie as tie
-use Rattle.rounds.proofs.run.Reads as reads
-use Rattle.rounds.proofs.run.Lts as lts
-use Rattle.rounds.proofs.differs.Reads as differs-reads
-use Rattle.rounds.proofs.round.Reads as round-reads
-use Rattle.rounds.proofs.zeros.Reads as zeros-reads
 
 abbrev Inv-loop : tie.InvT-loop
 Inv-loop kind to from up down start schedule n positions p marks₀ nodes cur₀ node₀ r₀ marks cur node r = (r ≤ positions * n) × (length cur ≡ 192) × (length marks ≡ 36864) × Running (walked (lists kind to from up down) start schedule n positions p positions) (positions * n) r node cur marks

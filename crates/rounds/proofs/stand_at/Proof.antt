@@ -7,8 +7,6 @@ use Rattle.rounds.specs.Rounds.{standOf}
 use borrow.Author.Needs.{needs}
 use Rattle.rounds.proofs.stand_at.Statement.{statement}
 use Rattle.rounds.proofs.stand_at.Tie as tie
-use Rattle.rounds.proofs.stand_at.Reads as reads
-use Rattle.rounds.proofs.stand_at.Lts as lts
 
 small : (g n : ℕ) → g ≤ 16 → n ≤ 12 → g * n ≤ 192
 small g n h k = mul-le-mul h k

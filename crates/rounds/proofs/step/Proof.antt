@@ -1,19 +1,13 @@
 -- The two ways of the branch are the two cases of `raise`.
-use mathlib.Core.Path.{_≡_, refl, sym, ap, subst, _∙_}
+use mathlib.Core.Path.{sym, subst}
 use native.Mathlib.Omega.{arith}
-use lib.ListN.{length, getD}
 use Rattle.layout.specs.declared.Edge.{Edge}
-use Rattle.layout.specs.Records.{Item, entry}
+use Rattle.layout.specs.Records.{entry}
 use Rattle.rounds.specs.Rounds.{Named, named, board, Reach}
 use Rattle.rounds.proofs.Folds.{raise-more, raise-same}
 use borrow.Author.Needs.{needs}
 use Rattle.rounds.proofs.step.Statement.{statement}
 use Rattle.rounds.proofs.step.Tie as tie
-use Rattle.rounds.proofs.step.Reads as reads
-use Rattle.rounds.proofs.step.Lts as lts
-use Rattle.layout.proofs.edge_of.Reads as edge-of-reads
-use Rattle.rounds.proofs.less.Reads as less-reads
-use Rattle.rounds.proofs.number.Reads as number-reads
 
 abbrev P : tie.After-edge-of → tie.Start
 P c = c .before .before .before .before .before

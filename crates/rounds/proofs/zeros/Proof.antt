@@ -2,11 +2,8 @@
 use Prim.Native.Nat.{ℕ, zero, suc}
 use mathlib.Core.Path.{_≡_, refl}
 use lib.ListN.{getD, replicate}
-use borrow.Author.Needs.{needs}
 use Rattle.rounds.proofs.zeros.Statement.{statement}
 use Rattle.rounds.proofs.zeros.Tie as tie
-use Rattle.rounds.proofs.zeros.Reads as reads
-use Rattle.rounds.proofs.zeros.Lts as lts
 
 zero-at : (n i : ℕ) → _≡_ {A = ℕ} (getD (replicate n 0) i 0) 0
 zero-at zero i = refl
