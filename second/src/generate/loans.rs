@@ -77,10 +77,20 @@ impl Loan {
 /// The loan of an index: of four, one is all right, one has surplus, and two have
 /// faults, sometimes several at once, which shows the order of the refusals.
 pub fn loan(seed: u64, index: u64) -> Loan {
+    lend(seed, index, cycle_time)
+}
+
+/// The loan of an index for calls that take no cycle time, with 0/1 for one: to find
+/// where the answer turns is most of the work on a [`loan`].
+pub fn untimed_loan(seed: u64, index: u64) -> Loan {
+    lend(seed, index, |_, _| (0, 1))
+}
+
+fn lend(seed: u64, index: u64, time: impl Fn(&mut Random, &Sheet) -> (u64, u64)) -> Loan {
     let mut random = Random::new(seed.rotate_left(32), index);
     let sheet = super::sheet(seed, index / 4);
     let mut loan = Loan::of(&sheet);
-    (loan.p, loan.q) = cycle_time(&mut random, &sheet);
+    (loan.p, loan.q) = time(&mut random, &sheet);
     if index % 4 > 0 {
         add_surplus(&mut random, &mut loan);
     }
