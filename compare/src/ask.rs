@@ -1,0 +1,180 @@
+//! The comparison of one cycle time asked.
+
+use second::ask::Answer;
+use second::calls;
+use second::check;
+use second::cycle_time::CycleTime;
+use second::random::Random;
+use second::refusal::Refusal;
+
+use crate::buffer::Buffer;
+use crate::calls::{Ask, VALUES};
+use crate::circuit;
+use crate::difference::{hex, named, same_number, Difference};
+use crate::loans::Loan;
+
+/// What asking left behind.
+struct Left {
+    number: u32,
+    plan: Buffer<u64>,
+    circuit: Buffer<u8>,
+    values: Buffer<u64>,
+}
+
+/// Asks both programs; the number, if they agree.
+pub fn compare(ask: Ask, loan: &Loan, random: &mut Random) -> Result<u32, Difference> {
+    let mut plan = Buffer::new(random, loan.room().plan);
+    let mut circuit = Buffer::new(random, loan.room().circuit);
+    let mut values = Buffer::new(random, VALUES);
+    let number = ask(
+        loan.lent(),
+        loan.p(),
+        loan.q(),
+        plan.lend(),
+        circuit.lend(),
+        values.lend(),
+    );
+    let left = Left {
+        number,
+        plan,
+        circuit,
+        values,
+    };
+    let right = calls::ask(
+        loan.lent_to_second(),
+        loan.p(),
+        loan.q(),
+        loan.room().plan,
+        loan.room().circuit,
+    );
+    let checked = match &right {
+        Ok(Answer::Accepted { plan, rounds }) => is_accepted(&left, plan, *rounds),
+        Ok(Answer::Refuted { .. }) => is_refuted(&left, loan),
+        Err(refusal) => is_refused(&left, *refusal),
+    };
+    checked.map(|()| number).map_err(|what| Difference {
+        what,
+        input: loan.to_string(),
+        proved: left.show(),
+        second: format!("{right:?}"),
+    })
+}
+
+/// "Acceptance writes N plan places and nothing of the circuit." There is one earliest
+/// plan and one number of rounds.
+fn is_accepted(left: &Left, plan: &[i64], rounds: usize) -> Result<(), String> {
+    same_number(left.number, 0)?;
+    named("values", left.values.holds(&[rounds as u64]))?;
+    let times: Vec<u64> = plan.iter().map(|&time| time as u64).collect();
+    named("plan", left.plan.holds(&times))?;
+    named("circuit", left.circuit.holds(&[]))
+}
+
+/// "A refutation writes the circuit's places and no plan, and returns its arc count."
+/// Any circuit above zero will do.
+fn is_refuted(left: &Left, loan: &Loan) -> Result<(), String> {
+    same_number(left.number, 100)?;
+    let count = left.values.contents()[0];
+    named("values", left.values.holds(&[count]))?;
+    let arcs = named("circuit", circuit::taken(&left.circuit, count))?;
+    let sheet = loan
+        .lent_to_second()
+        .admit()
+        .map_err(|refusal| refusal.to_string())?;
+    let time =
+        CycleTime::within_limits(loan.p(), loan.q()).map_err(|refusal| refusal.to_string())?;
+    named("circuit", check::refutes(&sheet, time, &arcs))?;
+    named("plan", left.plan.holds(&[]))
+}
+
+/// "Numbers 1 to 10 return only the number and alter nothing lent."
+fn is_refused(left: &Left, refusal: Refusal) -> Result<(), String> {
+    same_number(left.number, refusal.number())?;
+    named("values", left.values.holds(&[]))?;
+    named("plan", left.plan.holds(&[]))?;
+    named("circuit", left.circuit.holds(&[]))
+}
+
+impl Left {
+    fn show(&self) -> String {
+        let number = self.number;
+        let values = self.values.contents();
+        let plan = self.plan.contents();
+        let circuit = hex(self.circuit.contents());
+        format!("{number}, values {values:?}, plan {plan:?}, circuit {circuit}")
+    }
+}
+
+#[cfg(test)]
+mod tests {
+    use super::*;
+    use crate::stub;
+    use second::generate;
+
+    /// The first loan that the stub answers with this number.
+    fn loan(number: u32) -> Loan {
+        (0..)
+            .map(|index| Loan::new(generate::loan(5, index)))
+            .find(|loan| compare(stub::ask, loan, &mut Random::new(1, 1)) == Ok(number))
+            .unwrap()
+    }
+
+    /// Whether the comparison of a loan that should get a number says this of a call.
+    fn says(ask: Ask, number: u32, begins: &str) -> bool {
+        let difference = compare(ask, &loan(number), &mut Random::new(1, 1)).unwrap_err();
+        difference.what.starts_with(begins)
+    }
+
+    #[test]
+    fn wrong_numbers_are_reported() {
+        for number in [0, 4, 5, 6, 9, 10, 100] {
+            assert!(says(|_, _, _, _, _, _| 7, number, "the number is 7, not "));
+        }
+    }
+
+    #[test]
+    fn wrong_plans_and_rounds_are_reported() {
+        let late: Ask = |lent, p, q, plan, circuit, values| {
+            let number = stub::ask(lent, p, q, plan, circuit, values);
+            plan[0] += 1;
+            number
+        };
+        assert!(says(late, 0, "plan: place 0"));
+        let another_round: Ask = |lent, p, q, plan, circuit, values| {
+            let number = stub::ask(lent, p, q, plan, circuit, values);
+            values[0] += 1;
+            number
+        };
+        assert!(says(another_round, 0, "values: place 0"));
+        let needless_arc: Ask = |lent, p, q, plan, circuit, values| {
+            circuit[0] ^= 1;
+            stub::ask(lent, p, q, plan, circuit, values)
+        };
+        assert!(says(needless_arc, 0, "circuit: place 0"));
+    }
+
+    #[test]
+    fn wrong_circuits_are_reported() {
+        let no_such_arc: Ask = |lent, p, q, plan, circuit, values| {
+            let number = stub::ask(lent, p, q, plan, circuit, values);
+            circuit[0] = 4;
+            number
+        };
+        assert!(says(no_such_arc, 100, "circuit: there is no window"));
+        let no_arcs: Ask = |_, _, _, _, _, values| {
+            values[0] = 0;
+            100
+        };
+        assert!(says(no_arcs, 100, "circuit: the circuit has no arcs"));
+        let many_arcs: Ask = |_, _, _, _, _, values| {
+            values[0] = u64::MAX;
+            100
+        };
+        assert!(says(many_arcs, 100, "circuit: 18446744073709551615 arcs"));
+        let needless_plan: Ask = |lent, p, q, plan, circuit, values| {
+            plan[0] ^= 1;
+            stub::ask(lent, p, q, plan, circuit, values)
+        };
+        assert!(says(needless_plan, 100, "plan: place 0"));
+    }
+}

@@ -1,0 +1,56 @@
+//! The calls under comparison, as functions on slices.
+//!
+//! Each answers its number and puts the values that come with it at the front of the
+//! list it is given last. They are function pointers so that a test can put a wrong
+//! answer in the place of a right one.
+
+/// What is lent of a sheet in memory. Nothing is known of it.
+///
+/// It is the second program's `Lent` but for the schedule, of which the proved calls
+/// take bytes.
+#[derive(Clone, Copy, Debug)]
+pub struct Lent<'a> {
+    /// Events per mode.
+    pub n: u64,
+    /// Modes.
+    pub m: u64,
+    /// Positions of the schedule.
+    pub v: u64,
+    /// The tables, perhaps too short or with surplus.
+    pub tables: &'a [i32],
+    /// The schedule, perhaps too short or with surplus.
+    pub schedule: &'a [u8],
+}
+
+/// The reader: a file; tables, schedule and values to be written. With 0 come n, m
+/// and V.
+pub type Read = fn(&[u8], &mut [i32], &mut [u8], &mut [u64]) -> u32;
+
+/// The writer: a sheet; file and values to be written. With 0 comes the length.
+pub type Write = fn(Lent<'_>, &mut [u8], &mut [u64]) -> u32;
+
+/// Ask: a sheet, p and q; plan, circuit and values to be written. With 0 come the
+/// rounds, with 100 the arc count.
+pub type Ask = fn(Lent<'_>, u64, u64, &mut [u64], &mut [u8], &mut [u64]) -> u32;
+
+/// Ends: a sheet; two circuits and values to be written. With 0 come low's top and
+/// bottom, 1 if high is a fraction and 0 if it is open, high's top and bottom, and the
+/// arc counts of low's circuit and of high's; with 101 the arc counts of both circuits.
+pub type Ends = fn(Lent<'_>, &mut [u8], &mut [u8], &mut [u64]) -> u32;
+
+/// The calls of one program; those it does not have yet are `None`.
+#[derive(Clone, Copy)]
+pub struct Calls {
+    /// The reader.
+    pub read: Read,
+    /// The writer.
+    pub write: Write,
+    /// Ask.
+    pub ask: Option<Ask>,
+    /// Ends.
+    pub ends: Option<Ends>,
+}
+
+/// The places of the list lent for values: more than any call returns, to show what is
+/// written behind them.
+pub const VALUES: usize = 9;

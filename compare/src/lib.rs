@@ -1,0 +1,33 @@
+//! Holds the proved calls against the second program.
+//!
+//! Both answer the same inputs, and everything that document 01 ("Exact scope and
+//! rules") fixes is compared: the number, the values returned with it, and the whole
+//! later contents of every buffer lent. Where 01 leaves a choice, which is between
+//! valid circuits, the choice made is checked against its definitions instead.
+//!
+//! - [`calls`]: the calls under comparison; [`archive`]: the proved ones.
+//! - [`files`] and [`loans`]: the inputs, by seed and index.
+//! - [`buffer`]: what is lent to be written, and what is later found in it.
+//! - [`reader`], [`writer`], [`ask`], [`ends`]: the comparison of one input each.
+//! - [`circuit`]: circuits in buffers.
+//! - [`difference`]: what is shown of two answers that differ.
+//! - [`kind`] and [`tally`]: a run over many inputs, and its summary.
+
+#![deny(unsafe_code)]
+#![warn(missing_docs)]
+
+pub mod archive;
+pub mod ask;
+pub mod buffer;
+pub mod calls;
+pub mod circuit;
+pub mod difference;
+pub mod ends;
+pub mod files;
+pub mod kind;
+pub mod loans;
+pub mod reader;
+#[cfg(test)]
+mod stub;
+pub mod tally;
+pub mod writer;

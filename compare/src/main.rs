@@ -1,0 +1,83 @@
+//! Compares the proved calls with the second program at the command line.
+//!
+//! It ends with 0 where both agree, with 1 after a difference, which it shows, and with
+//! 2 where there is nothing to compare.
+
+use std::env;
+use std::process::ExitCode;
+
+use compare::archive;
+use compare::kind::{Comparison, Kind};
+
+const USAGE: &str = "\
+usage: compare KIND SEED COUNT
+       KIND   reader, writer, ask, ends, or all that there are
+       SEED   the number that settles the inputs
+       COUNT  how many inputs of each kind";
+
+/// What the arguments ask for.
+struct Order {
+    comparisons: Vec<Comparison>,
+    seed: u64,
+    count: u64,
+}
+
+fn main() -> ExitCode {
+    let arguments: Vec<String> = env::args_os()
+        .skip(1)
+        .map(|word| word.to_string_lossy().into_owned())
+        .collect();
+    match order(&arguments) {
+        Ok(order) => run(&order),
+        Err(trouble) => {
+            eprintln!("compare: {trouble}\n{USAGE}");
+            ExitCode::from(2)
+        }
+    }
+}
+
+/// Reads the arguments, or says what is wrong with them.
+fn order(arguments: &[String]) -> Result<Order, String> {
+    let [kind, seed, count] = match arguments {
+        [kind, seed, count] => [kind, seed, count],
+        _ => return Err(format!("{} arguments, not 3", arguments.len())),
+    };
+    Ok(Order {
+        comparisons: comparisons(kind)?,
+        seed: number("seed", seed)?,
+        count: number("count", count)?,
+    })
+}
+
+fn comparisons(name: &str) -> Result<Vec<Comparison>, String> {
+    if name == "all" {
+        let all = Kind::ALL.into_iter();
+        return Ok(all
+            .filter_map(|kind| kind.comparison(&archive::CALLS))
+            .collect());
+    }
+    let kind = Kind::from_name(name).ok_or_else(|| format!("no kind \"{name}\""))?;
+    match kind.comparison(&archive::CALLS) {
+        Some(comparison) => Ok(vec![comparison]),
+        None => Err(format!("this program is built without {kind}")),
+    }
+}
+
+fn number(what: &str, word: &str) -> Result<u64, String> {
+    word.parse()
+        .map_err(|_| format!("the {what} \"{word}\" is no number from 0 to 2^64 - 1"))
+}
+
+fn run(order: &Order) -> ExitCode {
+    println!("seed {}", order.seed);
+    for comparison in &order.comparisons {
+        match comparison.run(order.seed, order.count) {
+            Ok(tally) => println!("{tally}"),
+            Err((index, difference)) => {
+                println!("{}, index {index}: {difference}", comparison.kind());
+                return ExitCode::from(1);
+            }
+        }
+    }
+    ExitCode::SUCCESS
+}
