@@ -1,0 +1,68 @@
+//! Measures the proved calls against a plain Rust program. `bench/run` makes a table of
+//! what this prints.
+
+mod ours;
+mod rows;
+mod theirs;
+mod time;
+
+use std::env;
+use std::process::ExitCode;
+
+use self::rows::{Engine, Row};
+
+const USAGE: &str = "\
+usage: bench rows                      the rows of the table, one a line: name, arcs
+       bench repeat NAME ENGINE TIMES  asks ours or plain so many times, to be counted
+       bench time RUNS                 for each row its name and both median times, in ns";
+
+fn main() -> ExitCode {
+    let arguments: Vec<String> = env::args().skip(1).collect();
+    let words: Vec<&str> = arguments.iter().map(String::as_str).collect();
+    match run(&words) {
+        Ok(()) => ExitCode::SUCCESS,
+        Err(trouble) => {
+            eprintln!("bench: {trouble}\n{USAGE}");
+            ExitCode::from(2)
+        }
+    }
+}
+
+fn run(words: &[&str]) -> Result<(), String> {
+    match words {
+        ["rows"] => {
+            for mut row in rows::all() {
+                row.check()?;
+                println!("{} {}", row.name, row.arcs);
+            }
+        }
+        ["repeat", name, engine, times] => {
+            let engine = Engine::from_name(engine).ok_or("the engine is ours or plain")?;
+            let times = number(times)?;
+            let mut row = find(name)?;
+            for _ in 0..times {
+                row.ask(engine);
+            }
+        }
+        ["time", runs] => {
+            let runs = number(runs)?;
+            for mut row in rows::all() {
+                let (ours, plain) = time::medians(&mut row, runs);
+                println!("{} {} {}", row.name, ours.as_nanos(), plain.as_nanos());
+            }
+        }
+        _ => return Err("nothing to do".to_owned()),
+    }
+    Ok(())
+}
+
+fn find(name: &str) -> Result<Row, String> {
+    rows::all()
+        .into_iter()
+        .find(|row| row.name == name)
+        .ok_or_else(|| format!("no row \"{name}\""))
+}
+
+fn number(word: &str) -> Result<usize, String> {
+    word.parse().map_err(|_| format!("\"{word}\" is no number"))
+}
