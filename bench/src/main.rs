@@ -1,6 +1,8 @@
 //! Measures the proved calls against a plain Rust program. `bench/run` makes a table of
 //! what this prints.
 
+#![forbid(unsafe_code)]
+
 mod ours;
 mod rows;
 mod theirs;

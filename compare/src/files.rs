@@ -20,12 +20,15 @@ pub struct File {
     pub schedule_places: usize,
 }
 
+/// Sets the seed for the buffers' lengths apart from the seed of the files.
+const ROOM: u64 = 0x726f_6f6d_0000_0000;
+
 /// The file of an index: a sheet in two cases of three, else a damaged one.
 ///
 /// A sheet gets buffers that are mostly as long as needed or longer. A file that is
 /// none gets any, since nothing may be written to it.
 pub fn file(seed: u64, index: u64) -> File {
-    let mut random = Random::new(!seed.rotate_left(32), index);
+    let mut random = Random::new(seed ^ ROOM, index);
     let bytes = generate::file(seed, index);
     let (tables, schedule) = match file::read(&bytes) {
         Ok(sheet) => (sheet.tables().len(), sheet.v()),

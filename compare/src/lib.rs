@@ -11,7 +11,7 @@
 //! - [`reader`], [`writer`], [`ask`], [`ends`]: the comparison of one input each.
 //! - [`circuit`]: circuits in buffers.
 //! - [`difference`]: what is shown of two answers that differ.
-//! - [`kind`] and [`tally`]: a run over many inputs, and its summary.
+//! - [`kind`], [`comparison`] and [`tally`]: a run over many inputs, and its summary.
 
 #![deny(unsafe_code)]
 #![warn(missing_docs)]
@@ -21,6 +21,7 @@ pub mod ask;
 pub mod buffer;
 pub mod calls;
 pub mod circuit;
+pub mod comparison;
 pub mod difference;
 pub mod ends;
 pub mod files;

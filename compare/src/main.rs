@@ -3,11 +3,14 @@
 //! It ends with 0 where both agree, with 1 after a difference, which it shows, and with
 //! 2 where there is nothing to compare.
 
+#![forbid(unsafe_code)]
+
 use std::env;
 use std::process::ExitCode;
 
 use compare::archive;
-use compare::kind::{Comparison, Kind};
+use compare::comparison::Comparison;
+use compare::kind::Kind;
 
 const USAGE: &str = "\
 usage: compare KIND SEED COUNT
@@ -49,15 +52,14 @@ fn order(arguments: &[String]) -> Result<Order, String> {
     })
 }
 
+/// The comparison of this name, or all that can be made.
 fn comparisons(name: &str) -> Result<Vec<Comparison>, String> {
+    let comparison = |kind| Comparison::new(kind, &archive::CALLS);
     if name == "all" {
-        let all = Kind::ALL.into_iter();
-        return Ok(all
-            .filter_map(|kind| kind.comparison(&archive::CALLS))
-            .collect());
+        return Ok(Kind::ALL.into_iter().filter_map(comparison).collect());
     }
     let kind = Kind::from_name(name).ok_or_else(|| format!("no kind \"{name}\""))?;
-    match kind.comparison(&archive::CALLS) {
+    match comparison(kind) {
         Some(comparison) => Ok(vec![comparison]),
         None => Err(format!("this program is built without {kind}")),
     }

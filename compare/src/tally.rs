@@ -13,14 +13,11 @@ pub struct Tally {
 }
 
 impl Tally {
-    /// A tally of nothing yet: every number that calls of this kind can answer has
-    /// its count from the start, so that one which never came up is seen.
+    /// A tally of nothing yet.
     pub fn new(kind: Kind) -> Tally {
-        let refusals = kind.refusals().iter().copied();
-        let answers = kind.answers().iter().map(|&(number, _)| number);
         Tally {
             kind,
-            counts: refusals.chain(answers).map(|number| (number, 0)).collect(),
+            counts: BTreeMap::new(),
         }
     }
 
@@ -40,19 +37,35 @@ impl Tally {
     }
 }
 
-/// As "reader: 3 agree (refused 1: 0, 2: 1, ..., read: 2)".
+/// As "reader: 3 agree (refused 1: 0, 2: 1, ..., read: 2)": every number that calls of
+/// the kind can answer is named, so that one which never came up is seen.
 impl fmt::Display for Tally {
     fn fmt(&self, f: &mut fmt::Formatter<'_>) -> fmt::Result {
         write!(f, "{}: {} agree (refused", self.kind, self.total())?;
         for &number in self.kind.refusals() {
             write!(f, " {number}: {},", self.count(number))?;
         }
-        let answers: Vec<String> = self
-            .kind
-            .answers()
-            .iter()
-            .map(|&(number, word)| format!("{word}: {}", self.count(number)))
-            .collect();
-        write!(f, " {})", answers.join(", "))
+        for (place, &(number, word)) in self.kind.answers().iter().enumerate() {
+            let comma = if place > 0 { "," } else { "" };
+            write!(f, "{comma} {word}: {}", self.count(number))?;
+        }
+        write!(f, ")")
+    }
+}
+
+#[cfg(test)]
+mod tests {
+    use super::*;
+
+    #[test]
+    fn the_summary_names_every_number() {
+        let mut tally = Tally::new(Kind::Ask);
+        for number in [100, 9, 100] {
+            tally.add(number);
+        }
+        assert_eq!(
+            tally.to_string(),
+            "ask: 3 agree (refused 4: 0, 5: 0, 6: 0, 10: 0, 9: 1, accepted: 0, refuted: 2)"
+        );
     }
 }

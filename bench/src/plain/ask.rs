@@ -16,19 +16,28 @@ pub enum Answer {
     Refuted(Vec<usize>),
 }
 
+/// What a round needs of an arc at one cycle time.
+struct Step {
+    leaves: u32,
+    arrives: u32,
+    weight: i64,
+}
+
 /// Whether the cycle time p/q works for these arcs between so many nodes.
 pub fn ask(nodes: usize, arcs: &[Arc], p: i64, q: i64) -> Answer {
-    let weights: Vec<i64> = arcs.iter().map(|arc| q * arc.w + p * arc.c).collect();
+    let steps: Vec<Step> = arcs.iter().map(|arc| step(arc, p, q)).collect();
     let mut table = vec![0; nodes];
     let mut next = table.clone();
     // the arc that last raised each node
     let mut raised_by = vec![usize::MAX; nodes];
     for round in 0..nodes {
-        for (index, (arc, weight)) in arcs.iter().zip(&weights).enumerate() {
-            let least = table[arc.leaves] + weight;
-            if least > next[arc.arrives] {
-                next[arc.arrives] = least;
-                raised_by[arc.arrives] = index;
+        for (index, step) in steps.iter().enumerate() {
+            let least = table[step.leaves as usize] + step.weight;
+            let arrives = step.arrives as usize;
+            let held = &mut next[arrives];
+            if least > *held {
+                *held = least;
+                raised_by[arrives] = index;
             }
         }
         if next == table {
@@ -44,6 +53,14 @@ pub fn ask(nodes: usize, arcs: &[Arc], p: i64, q: i64) -> Answer {
     let raised = (0..nodes).find(|&node| next[node] > table[node]);
     let raised = raised.expect("the last round raised a node");
     Answer::Refuted(circuit(arcs, &raised_by, raised))
+}
+
+fn step(arc: &Arc, p: i64, q: i64) -> Step {
+    Step {
+        leaves: arc.leaves as u32,
+        arrives: arc.arrives as u32,
+        weight: q * arc.w + p * arc.c,
+    }
 }
 
 /// The circuit that one comes to from a node that the last round raised, back along
