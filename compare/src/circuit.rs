@@ -19,7 +19,8 @@ pub fn taken(buffer: &Buffer<u8>, count: u64) -> Result<Vec<ArcName>, String> {
 }
 
 /// The bytes of a circuit, as calls write them.
-pub fn bytes(names: &[ArcName]) -> Vec<u8> {
+#[cfg(test)]
+pub(crate) fn bytes(names: &[ArcName]) -> Vec<u8> {
     names
         .iter()
         .flat_map(|name| name.numbers())

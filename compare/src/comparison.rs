@@ -90,7 +90,8 @@ mod tests {
             let comparison = Comparison::new(kind, &archive::CALLS).unwrap();
             let tally = comparison.run(1, count).unwrap();
             assert_eq!(tally.total(), count);
-            for number in kind.numbers() {
+            let answers = kind.answers().iter().map(|&(number, _)| number);
+            for number in kind.refusals().iter().copied().chain(answers) {
                 assert!(tally.count(number) > 0, "{number} of {tally}");
             }
         }

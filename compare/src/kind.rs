@@ -53,12 +53,6 @@ impl Kind {
             Kind::Ends => &[(0, "found"), (101, "none")],
         }
     }
-
-    /// All numbers that calls of this kind can give.
-    pub fn numbers(self) -> impl Iterator<Item = u32> {
-        let answers = self.answers().iter().map(|&(number, _)| number);
-        self.refusals().iter().copied().chain(answers)
-    }
 }
 
 impl fmt::Display for Kind {
