@@ -28,27 +28,24 @@ pub struct Comparison {
 impl Comparison {
     /// The comparison of a kind, unless the calls are without it.
     pub fn new(kind: Kind, calls: &Calls) -> Option<Comparison> {
-        let Calls {
-            read,
-            write,
-            ask,
-            ends,
-        } = *calls;
-        let on_input: OnInput = match (kind, ask, ends) {
-            (Kind::Reader, _, _) => Box::new(move |seed, index, random| {
+        let Calls { read, write, .. } = *calls;
+        let on_input: OnInput = match kind {
+            Kind::Reader => Box::new(move |seed, index, random| {
                 reader::compare(read, write, &files::file(seed, index), random)
             }),
-            (Kind::Writer, _, _) => Box::new(move |seed, index, random| {
+            Kind::Writer => Box::new(move |seed, index, random| {
                 writer::compare(write, &untimed(seed, index), random)
             }),
-            (Kind::Ask, Some(ask), _) => Box::new(move |seed, index, random| {
-                let loan = Loan::new(generate::loan(seed, index));
-                ask::compare(ask, &loan, random)
-            }),
-            (Kind::Ends, _, Some(ends)) => Box::new(move |seed, index, random| {
-                ends::compare(ends, &untimed(seed, index), random)
-            }),
-            (Kind::Ask, None, _) | (Kind::Ends, _, None) => return None,
+            Kind::Ask => {
+                let ask = calls.ask?;
+                Box::new(move |seed, index, random| ask::compare(ask, &timed(seed, index), random))
+            }
+            Kind::Ends => {
+                let ends = calls.ends?;
+                Box::new(move |seed, index, random| {
+                    ends::compare(ends, &untimed(seed, index), random)
+                })
+            }
         };
         Some(Comparison { kind, on_input })
     }
@@ -70,6 +67,11 @@ impl Comparison {
         }
         Ok(tally)
     }
+}
+
+/// The loan of an index, with a cycle time.
+fn timed(seed: u64, index: u64) -> Loan {
+    Loan::new(generate::loan(seed, index))
 }
 
 /// The loan of an index for calls that take no cycle time.
