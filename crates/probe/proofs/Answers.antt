@@ -8,7 +8,13 @@ use Rattle.sheet.specs.declared.Read.{Read}
 use Rattle.sheet.specs.declared.Read.the-variants as read
 use Rattle.sheet.specs.declared.Written.{Written}
 use Rattle.sheet.specs.declared.Written.the-variants as written
-use Rattle.probe.specs.Probes.{Given, given}
+use Rattle.ask.specs.declared.Asked.{Asked}
+use Rattle.ask.specs.declared.Asked.the-variants as asked
+use Rattle.ends.specs.declared.High.{High}
+use Rattle.ends.specs.declared.High.the-variants as high
+use Rattle.ends.specs.declared.Ended.{Ended}
+use Rattle.ends.specs.declared.Ended.the-variants as ended
+use Rattle.probe.specs.Probes.{Given, given, answerAsked, answerFound, answerEnded}
 use Rattle.probe.specs.declared.Answered.{Answered}
 
 abbrev three : ℕ → ℕ → ℕ → Answered
@@ -32,3 +38,42 @@ pub written-given : (w : Written) (n a : ℕ) → w ≡ written.Done n → a ≡
 written-given w n a e x =
     subst (λ (s : Written). Given (one a) (answerWritten s)) (sym e)
     (record { numbered = refl; valued = single a n x; few = omega arith; room = refl })
+
+pub accepted-given : (r : Asked) (n : ℕ) → r ≡ asked.Accepted n → Given (one n) (answerAsked r)
+accepted-given r n e = subst (λ (s : Asked). Given (one n) (answerAsked s)) (sym e) (record { numbered = refl; valued = refl; few = omega arith; room = refl })
+
+abbrev hundred : ℕ → Answered
+hundred a = record { number = 100; count = 1; values = a ∷ 0 ∷ 0 ∷ 0 ∷ 0 ∷ 0 ∷ 0 ∷ 0 ∷ [] }
+
+pub refuted-given : (r : Asked) (n : ℕ) → r ≡ asked.Refuted n → Given (hundred n) (answerAsked r)
+refuted-given r n e = subst (λ (s : Asked). Given (hundred n) (answerAsked s)) (sym e) (record { numbered = refl; valued = refl; few = omega arith; room = refl })
+
+abbrev seven : ℕ → ℕ → ℕ → ℕ → ℕ → ℕ → ℕ → Answered
+seven t b k c d x y = record { number = 0; count = 7; values = t ∷ b ∷ k ∷ c ∷ d ∷ x ∷ y ∷ 0 ∷ [] }
+
+same-last : (t b k c d x y x′ y′ : ℕ) → x ≡ x′ → y ≡ y′ → _≡_ {A = List ℕ} (t ∷ b ∷ k ∷ c ∷ d ∷ x ∷ y ∷ []) (t ∷ b ∷ k ∷ c ∷ d ∷ x′ ∷ y′ ∷ [])
+same-last t b k c d x y x′ y′ p q = cc
+
+pub open-given : (t b : ℕ) (h : High) (f g x y : ℕ) → h ≡ high.Open → x ≡ f → y ≡ g → Given (seven t b 0 0 0 x y) (answerFound t b h f g)
+open-given t b h f g x y e p q =
+    subst (λ (z : High). Given (seven t b 0 0 0 x y) (answerFound t b z f g)) (sym e)
+    (record { numbered = refl; valued = same-last t b 0 0 0 x y f g p q; few = omega arith; room = refl })
+
+pub high-given : (t b : ℕ) (h : High) (f g c d x y : ℕ) → h ≡ high.UpTo c d → x ≡ f → y ≡ g → Given (seven t b 1 c d x y) (answerFound t b h f g)
+high-given t b h f g c d x y e p q =
+    subst (λ (z : High). Given (seven t b 1 c d x y) (answerFound t b z f g)) (sym e)
+    (record { numbered = refl; valued = same-last t b 1 c d x y f g p q; few = omega arith; room = refl })
+
+pub found-given : (r : Ended) (t b : ℕ) (h : High) (f g : ℕ) (a : Answered) → r ≡ ended.Found t b h f g → Given a (answerFound t b h f g) → Given a (answerEnded r)
+found-given r t b h f g a e x = subst (λ (s : Ended). Given a (answerEnded s)) (sym e) x
+
+abbrev two : ℕ → ℕ → Answered
+two x y = record { number = 101; count = 2; values = x ∷ y ∷ 0 ∷ 0 ∷ 0 ∷ 0 ∷ 0 ∷ 0 ∷ [] }
+
+same-two : (x y f g : ℕ) → x ≡ f → y ≡ g → _≡_ {A = List ℕ} (x ∷ y ∷ []) (f ∷ g ∷ [])
+same-two x y f g p q = cc
+
+pub none-given : (r : Ended) (f g x y : ℕ) → r ≡ ended.None f g → x ≡ f → y ≡ g → Given (two x y) (answerEnded r)
+none-given r f g x y e p q =
+    subst (λ (s : Ended). Given (two x y) (answerEnded s)) (sym e)
+    (record { numbered = refl; valued = same-two x y f g p q; few = omega arith; room = refl })

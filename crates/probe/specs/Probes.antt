@@ -7,6 +7,16 @@ use Rattle.probe.specs.declared.Answered.{Answered}
 use lib.IntN.{ℤ}
 use lib.Seq.{sets}
 use Rattle.tables.specs.Sheets.{Sheet}
+use Rattle.ask.specs.Ask as ask
+use Rattle.ask.specs.Answers as asked-answers
+use Rattle.ask.specs.declared.Asked.{Asked}
+use Rattle.ask.specs.declared.Asked.the-variants as asked
+use Rattle.ends.specs.Ends as ends
+use Rattle.ends.specs.Answers as ended-answers
+use Rattle.ends.specs.declared.High.{High}
+use Rattle.ends.specs.declared.High.the-variants as high
+use Rattle.ends.specs.declared.Ended.{Ended}
+use Rattle.ends.specs.declared.Ended.the-variants as ended
 use Rattle.sheet.specs.File.{sheetIn}
 use Rattle.sheet.specs.Answers.{Answer, reading, readOf, writing, writeOf}
 
@@ -34,3 +44,33 @@ pub record WriteProbed (s : Sheet) (out₀ values₀ : List ℕ) (number : ℕ) 
   pub outcome : writing answer out ≡ writeOf s out₀
   pub numbered : number ≡ answer .number
   pub valued : values ≡ sets values₀ 0 (answer .values)
+
+-- Ask's answer in numbers: the rounds, or the arc count
+abbrev pub answerAsked : Asked → Answer
+answerAsked (asked.Accepted rounds) = record { number = 0; values = rounds ∷ [] }
+answerAsked (asked.Refuted arcs) = record { number = 100; values = arcs ∷ [] }
+answerAsked (asked.Refused number) = record { number = number; values = [] }
+
+-- Ends' answer in numbers: low, whether there is a high, high or zeros, and the two arc counts
+abbrev pub answerFound : ℕ → ℕ → High → ℕ → ℕ → Answer
+answerFound top bottom high.Open first second = record { number = 0; values = top ∷ bottom ∷ 0 ∷ 0 ∷ 0 ∷ first ∷ second ∷ [] }
+answerFound top bottom (high.UpTo c d) first second = record { number = 0; values = top ∷ bottom ∷ 1 ∷ c ∷ d ∷ first ∷ second ∷ [] }
+
+abbrev pub answerEnded : Ended → Answer
+answerEnded (ended.Found top bottom h first second) = answerFound top bottom h first second
+answerEnded (ended.None first second) = record { number = 101; values = first ∷ second ∷ [] }
+answerEnded (ended.Refused number) = record { number = number; values = [] }
+
+-- Ask's outcome, for one answer
+pub record AskProbed (s : Sheet) (p q : ℕ) (plan₀ circuit₀ values₀ : List ℕ) (number : ℕ) (plan circuit values : List ℕ) : Type 0 where
+  pub answer : Asked
+  pub outcome : ask.Outcome s p q plan₀ circuit₀ (asked-answers.answer answer) plan circuit
+  pub numbered : number ≡ answerAsked answer .number
+  pub valued : values ≡ sets values₀ 0 (answerAsked answer .values)
+
+-- Ends'
+pub record EndsProbed (s : Sheet) (first₀ second₀ values₀ : List ℕ) (number : ℕ) (first second values : List ℕ) : Type 0 where
+  pub answer : Ended
+  pub outcome : ends.Outcome s first₀ second₀ (ended-answers.answer answer) first second
+  pub numbered : number ≡ answerEnded answer .number
+  pub valued : values ≡ sets values₀ 0 (answerEnded answer .values)

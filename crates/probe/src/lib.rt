@@ -1,5 +1,8 @@
 // The calls as tests and benchmarks reach them, through C: each answers its number, and what is returned with it goes into a lent list.
 // This crate knows every public call and adds nothing to them; no part of the product uses it.
+use ask::Asked;
+use ends::Ended;
+use ends::High;
 use sheet::Read;
 use sheet::Written;
 ghost use mathlib.Core.Path.{_≡_};
@@ -8,7 +11,7 @@ ghost use lib.ListN.{set, length};
 ghost use lib.Seq.{sets};
 ghost use Rattle.tables.specs.Sheets.{sheet};
 ghost use Rattle.sheet.specs.Answers.{answerRead, answerWritten};
-ghost use Rattle.probe.specs.Probes.{Given, given, ReadProbed, WriteProbed};
+ghost use Rattle.probe.specs.Probes.{Given, given, answerAsked, answerFound, answerEnded, ReadProbed, WriteProbed, AskProbed, EndsProbed};
 
 // An answer in numbers: its number, and how many values of the list belong to it.
 pub struct Answered {
@@ -72,6 +75,69 @@ fn of_written(written: Written) -> Answered
     }
 }
 
+fn of_asked(asked: Asked) -> Answered
+    ensures { λ r. ⌜ Given r (answerAsked asked) ⌝ }
+{
+    match asked {
+        Asked::Accepted { rounds } => Answered {
+            number: 0,
+            count: 1,
+            values: [rounds, 0, 0, 0, 0, 0, 0, 0],
+        },
+        Asked::Refuted { arcs } => Answered {
+            number: 100,
+            count: 1,
+            values: [arcs, 0, 0, 0, 0, 0, 0, 0],
+        },
+        Asked::Refused { number } => Answered {
+            number: answer(number),
+            count: 0,
+            values: [0; 8],
+        },
+    }
+}
+
+fn of_found(top: u64, bottom: u64, high: High, first: usize, second: usize) -> Answered
+    ensures { λ r. ⌜ Given r (answerFound top bottom high first second) ⌝ }
+{
+    match high {
+        High::Open => Answered {
+            number: 0,
+            count: 7,
+            values: [top, bottom, 0, 0, 0, wide(first), wide(second), 0],
+        },
+        High::UpTo { top: c, bottom: d } => Answered {
+            number: 0,
+            count: 7,
+            values: [top, bottom, 1, c, d, wide(first), wide(second), 0],
+        },
+    }
+}
+
+fn of_ended(ended: Ended) -> Answered
+    ensures { λ r. ⌜ Given r (answerEnded ended) ⌝ }
+{
+    match ended {
+        Ended::Found {
+            top,
+            bottom,
+            high,
+            first,
+            second,
+        } => of_found(top, bottom, high, first, second),
+        Ended::None { first, second } => Answered {
+            number: 101,
+            count: 2,
+            values: [wide(first), wide(second), 0, 0, 0, 0, 0, 0],
+        },
+        Ended::Refused { number } => Answered {
+            number: answer(number),
+            count: 0,
+            values: [0; 8],
+        },
+    }
+}
+
 // Hands an answer over: the values into the list, as far as it reaches, and the number.
 fn give(values: &mut [u64], a: Answered) -> u32
     requires { ⌜ (a .count ≤ 8) × (length (a .values) ≡ 8) ⌝ }
@@ -115,5 +181,44 @@ pub extern "C" fn probe_write(
     ensures { λ r. ⌜ WriteProbed (sheet n m positions (now (tables .entry)) (now (schedule .entry))) (now (out .entry)) (now (values .entry)) r (now (out .exit)) (now (values .exit)) ⌝ }
 {
     let a = of_written(sheet::write_sheet(n, m, positions, tables, schedule, out));
+    give(values, a)
+}
+
+// Ask: 0 with the rounds, 100 with the arc count, or the number of the refusal.
+#[no_mangle]
+pub extern "C" fn probe_ask(
+    n: usize,
+    m: usize,
+    positions: usize,
+    tables: &[i32],
+    schedule: &[u8],
+    p: u64,
+    q: u64,
+    plan: &mut [u64],
+    circuit: &mut [u8],
+    values: &mut [u64],
+) -> u32
+    ensures { λ r. ⌜ AskProbed (sheet n m positions (now (tables .entry)) (now (schedule .entry))) p q (now (plan .entry)) (now (circuit .entry)) (now (values .entry)) r (now (plan .exit)) (now (circuit .exit)) (now (values .exit)) ⌝ }
+{
+    let a = of_asked(ask::ask(n, m, positions, tables, schedule, p, q, plan, circuit));
+    give(values, a)
+}
+
+// Ends: 0 with low's top and bottom, 1 where there is a high and 0 where it is open, high's top and bottom, and the two arc counts; 101 with the
+// two arc counts; or the number of the refusal.
+#[no_mangle]
+pub extern "C" fn probe_ends(
+    n: usize,
+    m: usize,
+    positions: usize,
+    tables: &[i32],
+    schedule: &[u8],
+    first: &mut [u8],
+    second: &mut [u8],
+    values: &mut [u64],
+) -> u32
+    ensures { λ r. ⌜ EndsProbed (sheet n m positions (now (tables .entry)) (now (schedule .entry))) (now (first .entry)) (now (second .entry)) (now (values .entry)) r (now (first .exit)) (now (second .exit)) (now (values .exit)) ⌝ }
+{
+    let a = of_ended(ends::ends(n, m, positions, tables, schedule, first, second));
     give(values, a)
 }

@@ -1,0 +1,48 @@
+-- `probe::of_asked` meets its contract: the rounds, or the arc count, are the answer's value.
+use Rattle.probe.proofs.Answers.{accepted-given, refuted-given}
+use borrow.Author.Needs.{needs}
+use Rattle.probe.proofs.of_asked.Statement.{statement}
+use Rattle.probe.proofs.of_asked.Tie as tie
+use Rattle.probe.proofs.of_asked.Reads as reads
+use Rattle.probe.proofs.of_asked.Lts as lts
+use Rattle.probe.proofs.answer.Reads as answer-reads
+
+-- src/lib.rt:82:27
+enum-known-asked : tie.Need-enum-known-asked
+enum-known-asked c = search needs
+
+-- src/lib.rt:87:26
+enum-known-asked-2 : tie.Need-enum-known-asked-2
+enum-known-asked-2 c = search needs
+
+-- src/lib.rt:92:26
+enum-known-asked-3 : tie.Need-enum-known-asked-3
+enum-known-asked-3 c = search needs
+
+-- src/lib.rt:93:21
+answer-requires : tie.Need-answer-requires
+answer-requires c κs = search needs
+
+-- src/lib.rt:78:1
+returns : tie.Need-returns
+returns c = accepted-given _ _ (c .before .asked .given .1)
+
+-- src/lib.rt:78:1
+returns-2 : tie.Need-returns-2
+returns-2 c = refuted-given _ _ (c .before .asked2 .given .1)
+
+-- src/lib.rt:78:1
+returns-3 : tie.Need-returns-3
+returns-3 c = search needs
+
+pub of-asked-spec : {M : Type 1} → statement M
+of-asked-spec =
+    tie.close
+    (tie.spec
+    enum-known-asked
+    enum-known-asked-2
+    enum-known-asked-3
+    answer-requires
+    returns
+    returns-2
+    returns-3)

@@ -1,0 +1,65 @@
+-- `probe::of_ended` meets its contract, case by case.
+use Rattle.probe.proofs.Answers.{found-given, none-given}
+use borrow.Author.Needs.{needs}
+use Rattle.probe.proofs.of_ended.Statement.{statement}
+use Rattle.probe.proofs.of_ended.Tie as tie
+use Rattle.probe.proofs.of_ended.Reads as reads
+use Rattle.probe.proofs.of_ended.Lts as lts
+use Rattle.probe.proofs.answer.Reads as answer-reads
+use Rattle.probe.proofs.of_found.Reads as of-found-reads
+use Rattle.probe.proofs.wide.Reads as wide-reads
+
+-- src/lib.rt:121:24
+enum-known-ended : tie.Need-enum-known-ended
+enum-known-ended c = search needs
+
+-- src/lib.rt:121:62
+of-found-requires : tie.Need-of-found-requires
+of-found-requires c κs = search needs
+
+-- src/lib.rt:122:23
+enum-known-ended-2 : tie.Need-enum-known-ended-2
+enum-known-ended-2 c = search needs
+
+-- src/lib.rt:125:22
+wide-requires : tie.Need-wide-requires
+wide-requires c κs = search needs
+
+-- src/lib.rt:125:35
+wide-requires-2 : tie.Need-wide-requires-2
+wide-requires-2 c κs = search needs
+
+-- src/lib.rt:127:26
+enum-known-ended-3 : tie.Need-enum-known-ended-3
+enum-known-ended-3 c = search needs
+
+-- src/lib.rt:128:21
+answer-requires : tie.Need-answer-requires
+answer-requires c κs = search needs
+
+-- src/lib.rt:117:1
+returns : tie.Need-returns
+returns c = found-given _ _ _ _ _ _ (c .of-found .result) (c .before .before .ended .given .1) (c .of-found .ensures)
+
+-- src/lib.rt:117:1
+returns-2 : tie.Need-returns-2
+returns-2 c = none-given _ _ _ _ _ (c .before .before .before .ended2 .given .1) (c .before .wide .ensures) (c .wide2 .ensures)
+
+-- src/lib.rt:117:1
+returns-3 : tie.Need-returns-3
+returns-3 c = search needs
+
+pub of-ended-spec : {M : Type 1} → statement M
+of-ended-spec =
+    tie.close
+    (tie.spec
+    enum-known-ended
+    of-found-requires
+    enum-known-ended-2
+    wide-requires
+    wide-requires-2
+    enum-known-ended-3
+    answer-requires
+    returns
+    returns-2
+    returns-3)
