@@ -16,14 +16,14 @@ use Rattle.tables.specs.Sheets.{Sheet}
 use Rattle.tables.proofs.Laws.{Admitted}
 use Rattle.windows.specs.Windows.{number, Has, mode}
 use Rattle.windows.specs.Arcs.{arc, arcOf, arcs, nodes}
-use Rattle.windows.specs.Circuits.{Step, stepArc, Valid}
+use Rattle.windows.specs.Circuits.{Step, kindOf, stepArc, Valid}
 use Rattle.windows.proofs.Laying.{arcs-within}
 use Rattle.windows.proofs.Limits.{nodes-few}
 use Rattle.windows.proofs.Steps.{valid-in}
 use Rattle.layout.specs.declared.Edge.{Edge}
-use Rattle.layout.specs.Records.{Item, entry, kindOf, Lists, itemAt, Room, Modes}
+use Rattle.layout.specs.Records.{Item, entry, Lists, itemAt, Room, Modes}
 use Rattle.layout.specs.Edges.{byKind, edgeOf}
-use Rattle.layout.proofs.Windows.{kind-back}
+use Rattle.windows.proofs.Numbers.{kind-number}
 use Rattle.rounds.specs.declared.Stand.{Stand}
 use Rattle.rounds.specs.Rounds.{Named, pick, standOf, walked, Limits, Told, Rose}
 use Rattle.rounds.proofs.Sheets.{weighed, Source, source, table-is}
@@ -107,7 +107,7 @@ module _ (s : Sheet) (ok : Admitted s) (p q : ℕ) (l : Lists) (start : List ℕ
 
     step-is : step (a .mark) ≡ named-step
     unfolding named-step
-    step-is = rw (kind-at, to-at, from-at, position, kind-back (o .of .kind)) (rw (one (o .position)))
+    step-is = rw (kind-at, to-at, from-at, position, kind-number (o .of .kind)) (rw (one (o .position)))
       where
         one : (x : ℕ) → x + 1 ≡ suc x
         one x = omega arith
@@ -163,7 +163,7 @@ module _ (s : Sheet) (ok : Admitted s) (p q : ℕ) (l : Lists) (start : List ℕ
       rw (t .marked) (record {
         valid = subst (Valid s) (sym (step-is a o)) (valid-step a o);
         names = names a o;
-        kind = rw (kind-at a o) (ap number (kind-back (o .of .kind)));
+        kind = rw (kind-at a o) (ap number (kind-number (o .of .kind)));
         leave = sym (ap (λ (x : Edge). x .departure) e) ∙ sym (leave a o);
         arrive = sym (ap (λ (x : Edge). x .arrival) e) ∙ t .arrives;
         exact = omega (

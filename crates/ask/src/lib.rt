@@ -21,17 +21,14 @@ pub enum Asked {
     Refused { number: u8 },
 }
 
-// Records for each position: a mark is one more than position·4608 + record, the position counted from 0.
-const RECORDS: usize = 4608;
-
-// The node that the marked arc leaves.
+// The node that the marked arc leaves. A mark is one more than position·4608 + record, the position counted from 0.
 fn departure(kind: &[u8], to: &[u8], from: &[u8], n: usize, positions: usize, mark: u32) -> usize
     requires { ⌜ Names (now kind) (now to) (now from) n positions mark ⌝ }
     ensures { λ r. ⌜ r ≡ departureOf (now (kind .entry)) (now (to .entry)) (now (from .entry)) n positions mark ⌝ }
 {
     let number = mark as usize - 1;
-    let k = number % RECORDS;
-    let at = rounds::stand_at(number / RECORDS, n, positions, 0);
+    let k = number % rounds::RECORDS;
+    let at = rounds::stand_at(number / rounds::RECORDS, n, positions, 0);
     let arc = layout::edge_of(kind[k], to[k], from[k], 0, 0, at.here, at.next, 0);
     arc.departure
 }
@@ -65,7 +62,7 @@ fn back(
     while seen[u] == 0 {
         seen[u] = (r + 1) as u8;
         r -= 1;
-        let mark = marks[r * 192 + u];
+        let mark = marks[r * rounds::NODES + u];
         path[r] = mark;
         u = departure(kind, to, from, n, positions, mark);
         node[r] = u as u8;
@@ -118,8 +115,8 @@ fn write(
     let mut j: usize = 0;
     while j < m {
         let number = path[a + j] as usize - 1;
-        let k = number % RECORDS;
-        let position = (number / RECORDS + 1) as u8;
+        let k = number % rounds::RECORDS;
+        let position = (number / rounds::RECORDS + 1) as u8;
         write_arc(circuit, (at + j) * 4, kind[k], position, to[k], from[k]);
         j += 1;
     }

@@ -14,7 +14,8 @@ use lib.Seq.{getD-set-same, getD-set-other, getD-append-seam}
 use Rattle.tables.specs.Sheets.{absent}
 use Rattle.windows.specs.Windows.{number, Window}
 use Rattle.windows.specs.Arcs.{up, down, unless}
-use Rattle.layout.specs.Records.{Item, entry, item, kindOf, windowOf, windowsIn, Lists, itemAt, put, Room, State, state, added, nothing, Laid}
+use Rattle.windows.proofs.Numbers.{number-kind}
+use Rattle.layout.specs.Records.{Item, entry, item, windowOf, windowsIn, Lists, itemAt, put, Room, State, state, added, nothing, Laid}
 
 at-put : (s : Lists) (i : ℕ) (a : Item) → Room s (i + 1) → itemAt (put s i a) i ≡ a
 at-put s i a r =
@@ -86,13 +87,6 @@ windows-few part n (suc k) =
 pub kind-few : (n k : ℕ) → 0 < n → k < 4 * (n * n) → k / (n * n) < 4
 kind-few n k h l = div-lt-iff-lt-mul (mul-pos h h) .1 l
 
-pub kind-number : (k : ℕ) → k < 4 → number (kindOf k) ≡ k
-kind-number zero h = refl
-kind-number (suc zero) h = refl
-kind-number (suc (suc zero)) h = refl
-kind-number (suc (suc (suc zero))) h = refl
-kind-number (suc (suc (suc (suc k)))) h = absurd (omega arith)
-
 -- the lists are as long as they were
 pub record Same (old new : Lists) : Type 0 where
   pub kinds : length (new .kinds) ≡ length (old .kinds)
@@ -127,4 +121,4 @@ module _ (q : ℕ) (s : Lists) (w n k : ℕ) (v : ℤ) where
   pub add-some : absent v ≡ false → (u d : ℕ) → u ≡ up v → d ≡ down v → k / (n * n) < 4
       → state (put s w (entry (k / (n * n)) (k / n % n + 1) (k % n + 1) (q * u) (q * d))) (w + 1) ≡ added q s w (unless (absent v) (windowOf n k v))
   unfolding added
-  add-some e u d a b few = rw (e, a, b, kind-number (k / (n * n)) few)
+  add-some e u d a b few = rw (e, a, b, number-kind (k / (n * n)) few)

@@ -14,7 +14,8 @@ use Rattle.windows.specs.Arcs.{oneTo, each, unless, windowAt, windowsOf, window
 use Rattle.windows.proofs.Listed.{each-more}
 use Rattle.windows.proofs.Limits.{number-small, place-below, getD-any}
 use Rattle.layout.proofs.Laying.{append-nil}
-use Rattle.layout.specs.Records.{kindOf, windowOf, windowsIn, modeWindows}
+use Rattle.windows.proofs.Numbers.{kind-number}
+use Rattle.layout.specs.Records.{windowOf, windowsIn, modeWindows}
 
 -- f 0, f 1, .., f (k - 1), joined
 upTo : {A : Type 0} → (ℕ → List A) → ℕ → List A
@@ -80,12 +81,6 @@ module _ (n k i j : ℕ) (to : i < n) (from : j < n) where
   from-at : (k * (n * n) + (i * n + j)) % n ≡ j
   from-at = ap (λ (x : ℕ). x % n) again ∙ mul-add-mod-self-right (k * n + i) n j ∙ mod-eq-of-lt from
 
-pub kind-back : (k : Kind) → kindOf (number k) ≡ k
-kind-back A0 = refl
-kind-back B0 = refl
-kind-back A1 = refl
-kind-back B1 = refl
-
 -- what the code looks at in each place
 cell : List ℤ → ℕ → ℕ → List Window
 cell part n k = unless (absent (getD part k (pos 0))) (windowOf n k (getD part k (pos 0)))
@@ -120,7 +115,7 @@ module _ (s : Sheet) (t : ℕ) (mode : t < s .m) (long : places (s .n) (s .m) �
   cell-at : (k : Kind) (i j : ℕ) → i < s .n → j < s .n → cell part (s .n) (number k * (s .n * s .n) + (i * s .n + j)) ≡ windowAt s t k (suc i) (suc j)
   unfolding cell
   cell-at k i j to from =
-      rw (value-at k i j to from, kind-at (s .n) (number k) i j to from, to-at (s .n) (number k) i j to from, from-at (s .n) (number k) i j to from, kind-back k) (rw (one i, one j))
+      rw (value-at k i j to from, kind-at (s .n) (number k) i j to from, to-at (s .n) (number k) i j to from, from-at (s .n) (number k) i j to from, kind-number k) (rw (one i, one j))
     where
       one : (x : ℕ) → x + 1 ≡ suc x
       one x = omega arith

@@ -8,6 +8,7 @@ use lib.ListN.{length, getD, set, drop}
 use Rattle.tables.specs.Sheets.{absent}
 use Rattle.windows.specs.Windows.{Kind, A0, B0, A1, B1, number, Window}
 use Rattle.windows.specs.Arcs.{up, down, unless}
+use Rattle.windows.specs.Circuits.{kindOf}
 
 -- A record, in numbers: kind, to, from, and the limit as up - down in steps of 1/q.
 pub record Item : Type 0 where
@@ -23,13 +24,6 @@ entry kind to from up down = record { kind = kind; to = to; from = from; up = up
 -- the record of a window
 abbrev pub item : ℕ → Window → Item
 item q a = record { kind = number (a .kind); to = a .to; from = a .from; up = q * up (a .w); down = q * down (a .w) }
-
--- the kind of a number below 4
-abbrev pub kindOf : ℕ → Kind
-kindOf zero = A0
-kindOf (suc zero) = B0
-kindOf (suc (suc zero)) = A1
-kindOf (suc (suc (suc k))) = B1
 
 -- the window with the limit w at the place k of a mode's part of the tables
 abbrev pub windowOf : ℕ → ℕ → ℤ → Window

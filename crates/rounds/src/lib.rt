@@ -8,6 +8,12 @@ ghost use Rattle.layout.specs.Records.{entry, lists, itemAt, Room};
 ghost use Rattle.layout.specs.Edges.{edgeOf};
 ghost use Rattle.rounds.specs.Rounds.{named, standOf, Able, board, raise, after, span, walked, Boards, Parts, Limits, Differs, Ran};
 
+// The most records of all modes; the marks of a position have so many numbers of their own.
+pub const RECORDS: usize = 4608;
+
+// The most nodes; a row of marks has a place for each.
+pub const NODES: usize = 192;
+
 // Where a position stands: the places of its events and of the next position's, what crossing to that costs, and the first of its marks.
 pub struct Stand {
     pub here: usize,
@@ -26,14 +32,14 @@ pub fn stand_at(g: usize, n: usize, positions: usize, p: u64) -> Stand
             here: g * n,
             next: 0,
             cross: p,
-            mark: g * 4608,
+            mark: g * RECORDS,
         };
     }
     Stand {
         here: g * n,
         next: (g + 1) * n,
         cross: 0,
-        mark: g * 4608,
+        mark: g * RECORDS,
     }
 }
 
@@ -214,7 +220,7 @@ pub fn run(
             &old,
             &mut cur,
             marks,
-            r * 192,
+            r * NODES,
         );
         node = differs(&old, &cur, nodes);
         if node == nodes {
