@@ -3,6 +3,7 @@
 
 #![forbid(unsafe_code)]
 
+mod asks;
 mod ours;
 mod rows;
 mod theirs;
@@ -11,12 +12,16 @@ mod time;
 use std::env;
 use std::process::ExitCode;
 
+use compare::archive;
+use second::generate;
+
 use self::rows::{Engine, Row};
 
 const USAGE: &str = "\
 usage: bench rows                      the rows of the table, one a line: name, arcs
        bench repeat NAME ENGINE TIMES  asks ours or plain so many times, to be counted
-       bench time RUNS                 for each row its name and both median times, in ns";
+       bench time RUNS                 for each row its name and both median times, in ns
+       bench asks SEED COUNT           how many Asks the ends of so many sheets take at the most";
 
 fn main() -> ExitCode {
     let arguments: Vec<String> = env::args().skip(1).collect();
@@ -52,6 +57,15 @@ fn run(words: &[&str]) -> Result<(), String> {
                 let (ours, plain) = time::medians(&mut row, runs);
                 println!("{} {} {}", row.name, ours.as_nanos(), plain.as_nanos());
             }
+        }
+        ["asks", seed, count] => {
+            let ask = archive::CALLS.ask.ok_or("the archive is without Ask")?;
+            let (seed, count) = (number(seed)? as u64, number(count)? as u64);
+            let mut most = 0;
+            for index in 0..count {
+                most = most.max(asks::count(ask, &generate::sheet(seed, index))?);
+            }
+            println!("{most}");
         }
         _ => return Err("nothing to do".to_owned()),
     }

@@ -14,7 +14,7 @@ use Rattle.windows.specs.Arcs.{up, down, node, nodes, period, link, arc,
 use Rattle.windows.proofs.Listed.{arcs-of}
 
 module _ (s : Sheet) (some : 0 < s .positions) where
-  node-inside : (h i : ℕ) → Event s i → node s h i < nodes s
+  pub node-inside : (h i : ℕ) → Event s i → node s h i < nodes s
   node-inside h i event = omega (arith, mul-le-mul-right {m = suc (pred h % s .positions)} {n = s .positions} (s .n) (mod-lt (pred h) some))
 
   arc-inside : (h : ℕ) (k : Kind) (i j : ℕ) → Event s i → Event s j → (w : ℤ) → (arc s h k i j w .departure < nodes s) × (arc s h k i j w .arrival < nodes s)

@@ -1,0 +1,104 @@
+-- Two reports of the same bytes are equal, but for the lines of the circuits and which of the two forms of "none" they show.
+use mathlib.Core.Path.{_≡_, refl, sym, ap, ap₂, subst, _∙_}
+use mathlib.Core.Logic.{_⊎_, inl, inr}
+use mathlib.Core.List.{List, [], _∷_, _++_, map}
+use Prim.Native.Nat.{ℕ, zero, suc, _+_, _*_, _≤_, _<_}
+use native.Mathlib.Omega.{arith}
+use lib.ListN.{getD, length, take}
+use Rattle.text.specs.Text.{decimal}
+use Rattle.theory.specs.Arcs.{table, Rounds}
+use Rattle.theory.specs.Ends.{High}
+use Rattle.theory.proofs.Fractions.{range-same, low-works}
+use Rattle.theory.proofs.Loops.{rounds-same}
+use Rattle.theory.proofs.Turning.{map-append}
+use Rattle.tables.specs.Sheets.{Sheet, refusal}
+use Rattle.tables.proofs.Laws.{Sizes, accepted}
+use Rattle.numbers.proofs.Ways.{Bytes}
+use Rattle.sheet.specs.File.{Part, sheetIn}
+use Rattle.sheet.specs.File as file
+use Rattle.sheet.proofs.Admitted.{read-admitted}
+use Rattle.sheet.proofs.Front.{front}
+use Rattle.windows.specs.Inequalities.{Runs}
+use Rattle.windows.specs.Arcs.{node, nodes, arcs, oneTo}
+use Rattle.windows.proofs.Laying.{node-inside}
+use Rattle.ask.specs.Ask.{Earliest}
+use Rattle.ask.proofs.Unique.{plan-table}
+use Rattle.report.specs.Lines.{plan-word, line, joined, numbersLine, timesAt, planLines}
+use Rattle.report.specs.Report.{TellsEnds, TellsNone, Tells, judged, Reports, room, Answer, number, Outcome}
+use Rattle.report.specs.Report as report
+
+-- maps that agree from 1 to n make the same list of these
+map-same : {B : Type 0} (n : ℕ) (f g : ℕ → B) → ((i : ℕ) → 1 ≤ i → i ≤ n → f i ≡ g i) → map f (oneTo n) ≡ map g (oneTo n)
+map-same zero f g h = refl
+map-same (suc n) f g h =
+    map-append f (oneTo n) (suc n ∷ []) ∙ ap₂ (λ (xs : List _) (y : _). xs ++ y ∷ []) (map-same n f g (λ i a b. h i a (omega arith))) (h (suc n) (omega arith) (omega arith))
+    ∙ sym (map-append g (oneTo n) (suc n ∷ []))
+
+module _ (s : Sheet) (z : Sizes s) where
+  -- the plan's lines are determined by the cycle time
+  plan-lines-same : (p q r r′ : ℕ) (plan plan′ : List ℕ) → Earliest s p q plan → Earliest s p q plan′ → Rounds (arcs s) p q (nodes s) r → Rounds (arcs s) p q (nodes s) r′
+      → planLines s q r plan ≡ planLines s q r′ plan′
+  plan-lines-same p q r r′ plan plan′ e e′ k k′ =
+      ap (λ (u : ℕ). planLines s q u plan) same
+      ∙ ap (λ (t : List (List ℕ)). line plan-word (decimal q ∷ decimal r′ ∷ []) ++ joined t) (map-same (s .positions) (λ h. numbersLine (timesAt s plan h)) (λ h. numbersLine (timesAt s plan′ h)) (λ h a b. ap numbersLine (map-same (s .n) (λ i. getD plan (node s h i) 0) (λ i. getD plan′ (node s h i) 0) (λ i c d. times (node s h i) (node-inside s (z .some-positions) h i (c, d))))))
+    where
+      same : r ≡ r′
+      same = rounds-same (arcs s) p q (nodes s) r r′ k k′
+
+      times : (v : ℕ) → v < nodes s → getD plan v 0 ≡ getD plan′ v 0
+      times v below =
+          plan-table s p q (z .some-positions) (z .some-events) plan r e k v below ∙ ap (λ (u : ℕ). table (arcs s) p q u v) same
+          ∙ sym (plan-table s p q (z .some-positions) (z .some-events) plan′ r′ e′ k′ v below)
+
+  -- THEOREM: the ends and the plan's lines are determined
+  pub ends-same : (text text′ : List ℕ) (a : TellsEnds s text) (b : TellsEnds s text′)
+      → (a .top ≡ b .top) × (a .bottom ≡ b .bottom) × (a .high ≡ b .high) × (planLines s (a .bottom) (a .rounds) (a .plan) ≡ planLines s (b .bottom) (b .rounds) (b .plan))
+  ends-same text text′ a b =
+      let e = range-same (Runs s) (a .top) (a .bottom) (b .top) (b .bottom) (a .high) (b .high) (a .finds .range) (b .finds .range) in
+      (e .0, e .1, e .2, at (b .top) (b .bottom) (e .0) (e .1) (b .rounds) (b .plan) (b .plan-is) (b .rounds-are))
+    where
+      at : (p q : ℕ) → a .top ≡ p → a .bottom ≡ q → (r : ℕ) (plan : List ℕ) → Earliest s p q plan → Rounds (arcs s) p q (nodes s) r
+          → planLines s (a .bottom) (a .rounds) (a .plan) ≡ planLines s q r plan
+      at p q e f r plan is rounds =
+          plan-lines-same (a .top) (a .bottom) (a .rounds) r (a .plan) plan (a .plan-is)
+          (subst (λ (k : ℕ). Earliest s (a .top) k plan) (sym f) (subst (λ (k : ℕ). Earliest s k q plan) (sym e) is)) (a .rounds-are)
+          (subst (λ (k : ℕ). Rounds (arcs s) (a .top) k (nodes s) r) (sym f) (subst (λ (k : ℕ). Rounds (arcs s) k q (nodes s) r) (sym e) rounds))
+          ∙ ap (λ (k : ℕ). planLines s k r plan) f
+
+-- there are ends or there are none
+never-both : (s : Sheet) (text text′ : List ℕ) → TellsEnds s text → TellsNone s text′ → ⊥
+never-both s text text′ a b = b .lacks .never (a .top) (a .bottom) (a .finds .range .bottom) (low-works (Runs s) (a .top) (a .bottom) (a .high) (a .finds .range))
+
+-- The two texts agree: the same refusal, or the same ends and the same lines of the plan, or none both.
+abbrev pub Agree : (w : Part Sheet) (text text′ : List ℕ) → Tells w text → Tells w text′ → Type 0
+Agree (file.got s next) text text′ (inl a) (inl b) =
+    (a .top ≡ b .top) × (a .bottom ≡ b .bottom) × (a .high ≡ b .high) × (planLines s (a .bottom) (a .rounds) (a .plan) ≡ planLines s (b .bottom) (b .rounds) (b .plan))
+Agree (file.got s next) text text′ (inl a) (inr b) = ⊥
+Agree (file.got s next) text text′ (inr a) (inl b) = ⊥
+Agree (file.got s next) text text′ (inr a) (inr b) = Unit {0}
+Agree (file.refused k) text text′ x y = text ≡ text′
+
+tells-same : (w : Part Sheet) → ((s : Sheet) (next : ℕ) → w ≡ file.got s next → refusal s ≡ 0) → (text text′ : List ℕ) (x : Tells w text) (y : Tells w text′) → Agree w text text′ x y
+tells-same (file.got s next) h text text′ (inl a) (inl b) = ends-same s (accepted s (h s next refl) .size) text text′ a b
+tells-same (file.got s next) h text text′ (inl a) (inr b) = never-both s text text′ a b
+tells-same (file.got s next) h text text′ (inr a) (inl b) = never-both s text′ text b a
+tells-same (file.got s next) h text text′ (inr a) (inr b) = tt
+tells-same (file.refused k) h text text′ x y = x ∙ sym y
+
+-- THEOREM: two reports of the same bytes agree
+pub reports-same : (bytes text text′ : List ℕ) (x : Reports bytes text) (y : Reports bytes text′) → Agree (sheetIn (take judged bytes)) text text′ x y
+reports-same bytes text text′ x y = tells-same (sheetIn (take judged bytes)) (read-admitted (take judged bytes)) text text′ x y
+
+-- THEOREM: "Of a file over 27,685 bytes the first 27,685 are judged; the answer is the same."
+pub judged-same : (bytes text : List ℕ) → Bytes bytes → judged ≤ length bytes → Reports bytes text → Tells (sheetIn bytes) text
+judged-same bytes text b long x = subst (λ (w : Part Sheet). Tells w text) (front bytes b long) x
+
+-- THEOREM: two outcomes have the same number, and two refusals leave the same buffer
+pub outcome-same : (bytes out₀ : List ℕ) (a b : Answer) (out out′ : List ℕ) → Outcome bytes out₀ a out → Outcome bytes out₀ b out′ → number a ≡ number b
+outcome-same bytes out₀ (report.written c) (report.written d) out out′ x y = refl
+outcome-same bytes out₀ (report.written c) (report.refused k) out out′ x y = absurd (omega (arith, x .0, y .0))
+outcome-same bytes out₀ (report.refused k) (report.written c) out out′ x y = absurd (omega (arith, x .0, y .0))
+outcome-same bytes out₀ (report.refused k) (report.refused j) out out′ x y = x .1 ∙ sym (y .1)
+
+pub refused-same : (bytes out₀ : List ℕ) (k j : ℕ) (out out′ : List ℕ) → Outcome bytes out₀ (report.refused k) out → Outcome bytes out₀ (report.refused j) out′ → out ≡ out′
+refused-same bytes out₀ k j out out′ x y = x .2 ∙ sym (y .2)
