@@ -10,6 +10,7 @@
 //! - [`buffer`]: what is lent to be written, and what is later found in it.
 //! - [`reader`], [`writer`], [`ask`], [`ends`]: the comparison of one input each.
 //! - [`circuit`]: circuits in buffers.
+//! - [`first_line`]: the ends of one sheet, to be held to what is published.
 //! - [`difference`]: what is shown of two answers that differ.
 //! - [`kind`], [`comparison`] and [`tally`]: a run over many inputs, and its summary.
 
@@ -25,6 +26,7 @@ pub mod comparison;
 pub mod difference;
 pub mod ends;
 pub mod files;
+pub mod first_line;
 pub mod kind;
 pub mod loans;
 pub mod reader;

@@ -6,17 +6,20 @@
 #![forbid(unsafe_code)]
 
 use std::env;
+use std::io::{self, Read};
 use std::process::ExitCode;
 
 use compare::archive;
 use compare::comparison::Comparison;
+use compare::first_line;
 use compare::kind::Kind;
 
 const USAGE: &str = "\
-usage: compare KIND SEED COUNT
+usage: compare KIND SEED COUNT, or compare first-line < SHEET
        KIND   reader, writer, ask, ends, or all that there are
        SEED   the number that settles the inputs
-       COUNT  how many inputs of each kind";
+       COUNT  how many inputs of each kind
+first-line prints the first line of a sheet's report, by the proved reader and Ends";
 
 /// What the arguments ask for.
 struct Order {
@@ -30,13 +33,27 @@ fn main() -> ExitCode {
         .skip(1)
         .map(|word| word.to_string_lossy().into_owned())
         .collect();
-    match order(&arguments) {
-        Ok(order) => run(&order),
-        Err(trouble) => {
-            eprintln!("compare: {trouble}\n{USAGE}");
-            ExitCode::from(2)
-        }
-    }
+    let done = if arguments == ["first-line"] {
+        first_line()
+    } else {
+        order(&arguments).map(|order| run(&order))
+    };
+    done.unwrap_or_else(|trouble| {
+        eprintln!("compare: {trouble}\n{USAGE}");
+        ExitCode::from(2)
+    })
+}
+
+/// Prints the first line of the report of the sheet on standard input.
+fn first_line() -> Result<ExitCode, String> {
+    let calls = archive::CALLS;
+    let ends = calls.ends.ok_or("this program is built without ends")?;
+    let mut file = Vec::new();
+    io::stdin()
+        .read_to_end(&mut file)
+        .map_err(|error| error.to_string())?;
+    println!("{}", first_line::of(calls.read, ends, &file));
+    Ok(ExitCode::SUCCESS)
 }
 
 /// Reads the arguments, or says what is wrong with them.
