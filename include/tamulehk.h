@@ -26,8 +26,12 @@ extern "C" {
 #define TAMULEHK_REFUTED     100u  /* refuted: the cycle time does not work */
 
 /* The longest sheet has 27,684 bytes. Of a longer file the first 27,685 bytes get the same answer as the whole. */
-#define TAMULEHK_ENOUGH      27685u /* Stack that a call uses, in bytes, at most. */
-#define TAMULEHK_STACK       266240u /* Does the cycle time p/q work for the sheet in these bytes?
+#define TAMULEHK_ENOUGH 27685u
+
+/* Stack that a call uses, in bytes, at most. */
+#define TAMULEHK_STACK 266240u
+
+/* Does the cycle time p/q work for the sheet in these bytes?
  *
  * sheet   the bytes of a sheet file; may be null where length is 0
  * length  how many there are; any number of them, all readable
