@@ -1,30 +1,18 @@
 //! The first line of a sheet's report, by the reader and Ends: what is known of a
 //! published sheet.
 
-use second::limits::{MOST_EVENTS, MOST_MODES, MOST_POSITIONS};
-
-use crate::calls::{Ends, Lent, Read, VALUES};
-
-const TABLES: usize = 4 * MOST_MODES * MOST_EVENTS * MOST_EVENTS;
-const CIRCUIT: usize = 4 * MOST_POSITIONS * MOST_EVENTS;
+use crate::calls::{Ends, Read, VALUES};
+use crate::held::{Held, CIRCUIT};
 
 /// The ends of the sheet in a file, or "none", or the refusal.
 pub fn of(read: Read, ends: Ends, file: &[u8]) -> String {
-    let (mut tables, mut schedule) = ([0; TABLES], [0; MOST_POSITIONS]);
-    let mut values = [0; VALUES];
-    let number = read(file, &mut tables, &mut schedule, &mut values);
-    if number != 0 {
-        return format!("refused {number}");
-    }
-    let lent = Lent {
-        n: values[0],
-        m: values[1],
-        v: values[2],
-        tables: &tables,
-        schedule: &schedule,
+    let held = match Held::read(read, file) {
+        Ok(held) => held,
+        Err(number) => return format!("refused {number}"),
     };
     let (mut first, mut second) = ([0; CIRCUIT], [0; CIRCUIT]);
-    match ends(lent, &mut first, &mut second, &mut values) {
+    let mut values = [0; VALUES];
+    match ends(held.lent(), &mut first, &mut second, &mut values) {
         0 => format!("ends {}/{} {}", values[0], values[1], high(&values)),
         101 => "none".to_owned(),
         number => format!("refused {number}"),
