@@ -1,1 +1,5 @@
+pub mod Lengths
+pub mod Spelled
+pub mod Turns
+pub mod Texts
 pub mod Unique

@@ -1,3 +1,4 @@
-// The report of a sheet: its ends, the circuits that show them and the plan at low, as text in a lent buffer.
-// This crate knows which line follows which; the answers and the spelling of numbers are below it.
+// The report of a sheet file: what the bench's lead reads in the morning.
+// This crate knows the order of the report's lines and which call answers each; the program around it only reads and writes.
 // It renders document 01's "The report".
+mod lines;
