@@ -1,1 +1,3 @@
 pub mod Unique
+pub mod Asking
+pub mod Reading
