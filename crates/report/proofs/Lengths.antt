@@ -16,7 +16,7 @@ use Rattle.report.specs.Held.{fourLine, arcLines, circuitText, highText,
 pub line-one : (a : List ℕ) → length (line a []) ≡ length a + 1
 line-one a = length-append a (feed ∷ [])
 
-following-length : (a : List ℕ) (rest : List (List ℕ)) → length (following (a ∷ rest)) ≡ 1 + length a + length (following rest)
+pub following-length : (a : List ℕ) (rest : List (List ℕ)) → length (following (a ∷ rest)) ≡ 1 + length a + length (following rest)
 following-length a rest = omega (arith, length-append a (following rest))
 
 pub line-two : (a b : List ℕ) → length (line a (b ∷ [])) ≡ length a + length b + 2

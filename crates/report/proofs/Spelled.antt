@@ -14,7 +14,7 @@ use Rattle.windows.specs.Arcs.{node, nodes, oneTo, each}
 use Rattle.windows.specs.Circuits.{Step, numbers}
 use Rattle.windows.proofs.Listed.{each-more}
 use Rattle.ends.specs.Ends.{Holds}
-use Rattle.report.specs.Lines.{line, arcLine, circuitLines, highLines, numbersLine, timesAt, planLines, plan-word}
+use Rattle.report.specs.Lines.{line, arcLine, circuitLines, highLines, numbersLine, timesAt, planLines, high-word, plan-word}
 use Rattle.report.specs.Held.{fourLine, arcLines, circuitText, highText, timesLines, planText}
 
 -- ---- the arcs
@@ -34,7 +34,7 @@ module _ (s : Sheet) (before : List ℕ) (count : ℕ) (after : List ℕ) (held 
 
   pub high-is : (high : High) → highText high after count ≡ highLines high (held .steps)
   high-is open-end = refl
-  high-is (up-to top bottom) = circuit-is _
+  high-is (up-to top bottom) = circuit-is high-word
 
 -- one arc more, of those from the place 4k on
 pub arcs-more : (circuit : List ℕ) (k m : ℕ) → arcLines (drop (4 * k) circuit) (suc m) ≡ fourLine (getD circuit (4 * k) 0) (getD circuit (4 * k + 1) 0) (getD circuit (4 * k + 2) 0) (getD circuit (4 * k + 3) 0) ++ arcLines (drop (4 * (k + 1)) circuit) m
