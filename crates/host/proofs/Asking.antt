@@ -3,29 +3,23 @@ use mathlib.Core.Path.{_≡_, refl, sym, _∙_}
 use mathlib.Core.Logic.{_⊎_, inl, inr}
 use mathlib.Core.Bool.{Bool, true, false}
 use mathlib.Core.List.{List}
-use Prim.Native.Nat.{ℕ, _*_}
+use Prim.Native.Nat.{ℕ}
 use native.Mathlib.Omega.{arith}
-use borrow.Author.Tests.{le-leb}
 use lib.ListN.{length}
 use Rattle.tables.specs.Sheets.{Sheet, refusal, unless}
 use Rattle.tables.proofs.Laws.{Admitted, accepted}
-use Rattle.windows.specs.Arcs.{nodes}
-use Rattle.windows.proofs.Limits.{nodes-few}
 use Rattle.windows.proofs.Steps.{never-both}
+use Rattle.ask.proofs.Room.{room}
 use Rattle.ask.specs.Ask as ask
-use Rattle.ask.specs.Ask.{Answer, Outcome, askRefusal, roomy, timed, number, planned}
+use Rattle.ask.specs.Ask.{Answer, Outcome, askRefusal, timed, number, planned}
 use Rattle.host.specs.Host.{Answers}
 
 module _ (s : Sheet) (p q : ℕ) (plan₀ circuit₀ : List ℕ) (admitted : refusal s ≡ 0) where
   ok : Admitted s
   ok = accepted s admitted
 
-  -- 192 places for the plan and 768 for the circuit are enough
-  room : length plan₀ ≡ 192 → length circuit₀ ≡ 768 → roomy s plan₀ circuit₀ ≡ true
-  room long wide = rw (le-leb (nodes s) (length plan₀) (omega (arith, nodes-few s ok)), le-leb (4 * nodes s) (length circuit₀) (omega (arith, nodes-few s ok)))
-
   refusals : length plan₀ ≡ 192 → length circuit₀ ≡ 768 → askRefusal s p q plan₀ circuit₀ ≡ unless (timed p q) 10 0
-  refusals long wide = rw (admitted, room long wide)
+  refusals long wide = rw (admitted, room s admitted plan₀ circuit₀ long wide)
 
   by-time : (t : Bool) (a : Answer) (plan circuit : List ℕ) → askRefusal s p q plan₀ circuit₀ ≡ unless t 10 0 → Outcome s p q plan₀ circuit₀ a plan circuit → Answers t s p q (number a)
   by-time true (ask.accepted rounds) plan circuit e o = inl (refl, (planned s p q plan, o .1 .plan-is .solves))

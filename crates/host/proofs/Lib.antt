@@ -1,3 +1,2 @@
 pub mod Unique
 pub mod Asking
-pub mod Reading

@@ -1,2 +1,4 @@
 pub mod Lines
+pub mod Held
 pub mod Report
+pub mod Told

@@ -13,7 +13,7 @@ use Rattle.sheet.specs.File as file
 use Rattle.windows.specs.Arcs.{nodes, arcs}
 use Rattle.ask.specs.Ask.{Earliest}
 use Rattle.ends.specs.Ends.{Finds, Lacks}
-use Rattle.report.specs.Lines.{ends-word, low-word, none-word, first-word, second-word, refused-word, line, fraction, highest, circuitLines, highLines, planLines}
+use Rattle.report.specs.Lines.{ends-word, low-word, none-word, first-word, second-word, refused-word, line, fraction, highSpelled, circuitLines, highLines, planLines}
 
 module _ (s : Sheet) where
   -- Ends found: the ends and their circuits, which are all that two empty buffers would then hold, and the earliest plan at low with its rounds.
@@ -30,7 +30,7 @@ module _ (s : Sheet) where
     pub plan : List ℕ
     pub plan-is : Earliest s top bottom plan
     pub rounds-are : Rounds (arcs s) top bottom (nodes s) rounds
-    pub text-is : text ≡ line ends-word (fraction top bottom ∷ highest high ∷ []) ++ circuitLines low-word (finds .first-holds .steps) ++ highLines high (finds .second-holds .steps) ++ planLines s bottom rounds plan
+    pub text-is : text ≡ line ends-word (fraction top bottom ∷ highSpelled high ∷ []) ++ circuitLines low-word (finds .first-holds .steps) ++ highLines high (finds .second-holds .steps) ++ planLines s bottom rounds plan
 
   -- "Without ends: "none", then "first" and "second" with counts and arcs ("second 0" after a single circuit)."
   pub record TellsNone (text : List ℕ) : Type 0 where

@@ -1,15 +1,12 @@
 -- `host::judge` meets its contract: the sheet handed on is the one that the bytes are read as.
-use mathlib.Core.Path.{sym, subst}
-use Prim.Native.Nat.{_≤_}
+use mathlib.Core.Path.{refl, sym, subst}
 use native.Mathlib.Omega.{arith}
-use lib.ListN.{take}
 use lib.Seq.{length-take-le}
-use Rattle.tables.specs.Sheets.{Sheet, sheet, places}
-use Rattle.tables.proofs.Laws.{Sizes, accepted, square, few-places}
-use Rattle.sheet.proofs.Admitted.{read-admitted}
+use Rattle.tables.specs.Sheets.{Sheet}
+use Rattle.tables.proofs.Laws.{square}
+use Rattle.sheet.proofs.Held.{Held, held-admitted, held-sizes, held-few, read-held, read-refused}
 use Rattle.sheet.specs.File.{Part}
 use Rattle.host.specs.Host.{AnswersPart}
-use Rattle.host.proofs.Reading.{Held, read-held, read-refused}
 use borrow.Author.Needs.{needs}
 use Rattle.host.proofs.judge.Statement.{statement}
 use Rattle.host.proofs.judge.Tie as tie
@@ -32,40 +29,33 @@ held : (c : tie.After-known-told2) → let g = c .before .read2 .given .0 in let
 held c = let r = c .before .before .before .before .before .before in
     read-held _ _ _ _ _ (r .read-sheet .result) _ _ _ _ _ (c .before .read2 .given .1) (r .read-sheet .ensures)
 
-size : (c : tie.After-known-told2) → let g = c .before .read2 .given .0 in let r = c .before .before .before .before .before .before in
-    Sizes (sheet (g .0) (g .1 .0) (g .1 .1 .0) (take (places (g .0) (g .1 .0)) (r .read-sheet .last .1 .0)) (take (g .1 .1 .0) (r .read-sheet .last .1 .1 .0)))
-size c = accepted _ (read-admitted _ _ _ (held c .is)) .size
-
-few : (c : tie.After-known-told2) → let g = c .before .read2 .given .0 in places (g .0) (g .1 .0) ≤ 4608
-few c = few-places _ _ (size c .few-events) (size c .few-modes)
-
 mul-places : tie.Need-mul-places
-mul-places c = omega (arith, size c .few-modes)
+mul-places c = omega (arith, held-sizes (held c) .few-modes)
 
 mul-places-2 : tie.Need-mul-places-2
-mul-places-2 c = omega (arith, square _ (size c .few-events))
+mul-places-2 c = omega (arith, square _ (held-sizes (held c) .few-events))
 
 mul-places-3 : tie.Need-mul-places-3
-mul-places-3 c = omega (arith, few c)
+mul-places-3 c = omega (arith, held-few (held c))
 
 slice-reshare-prefix-decide : tie.Need-slice-reshare-prefix-decide
 slice-reshare-prefix-decide c = let r = c .before .before .before .before .before .before in
-    omega (arith, few c, r .read-sheet .kept .1 .0)
+    omega (arith, held-few (held c), r .read-sheet .kept .1 .0)
 
 slice-aggregate-decide : tie.Need-slice-aggregate-decide
 slice-aggregate-decide c = let r = c .before .before .before .before .before .before .before in
-    sym (length-take-le _ (r .read-sheet .last .1 .0) (omega (arith, few (c .before), r .read-sheet .kept .1 .0)))
+    sym (length-take-le _ (r .read-sheet .last .1 .0) (omega (arith, held-few (held (c .before)), r .read-sheet .kept .1 .0)))
 
 slice-reshare-prefix-decide-2 : tie.Need-slice-reshare-prefix-decide-2
 slice-reshare-prefix-decide-2 c = let r = c .before .before .before .before .before .before .before in
-    omega (arith, size (c .before) .few-positions, r .read-sheet .kept .1 .1 .0)
+    omega (arith, held-sizes (held (c .before)) .few-positions, r .read-sheet .kept .1 .1 .0)
 
 slice-aggregate-decide-2 : tie.Need-slice-aggregate-decide-2
 slice-aggregate-decide-2 c = let r = c .before .before .before .before .before .before .before .before in
-    sym (length-take-le _ (r .read-sheet .last .1 .1 .0) (omega (arith, size (c .before .before) .few-positions, r .read-sheet .kept .1 .1 .0)))
+    sym (length-take-le _ (r .read-sheet .last .1 .1 .0) (omega (arith, held-sizes (held (c .before .before)) .few-positions, r .read-sheet .kept .1 .1 .0)))
 
 decide-requires : tie.Need-decide-requires
-decide-requires c κs = read-admitted _ _ _ (held (c .before .before) .is)
+decide-requires c κs = held-admitted (held (c .before .before))
 
 same-length : tie.Need-same-length
 same-length c = search needs
@@ -74,8 +64,8 @@ same-length-2 : tie.Need-same-length-2
 same-length-2 c = search needs
 
 returns : tie.Need-returns
-returns c = let r = c .before .before .before .before .before .before in let s = r .before .before .before .before .before in
-    read-refused _ _ _ (s .pre .0) (s .pre .1) (r .read-sheet .result) _ _ _ _ _ (c .before .read .given .1) (r .read-sheet .ensures)
+returns c = let r = c .before .before .before .before .before .before in let s = r .before .before .before .before .before in let k = c .before .read .given .0 .0 in
+    subst (λ (x : Part Sheet). AnswersPart x (s .args .p) (s .args .q) k) (sym (read-refused _ _ _ (s .pre .0) (s .pre .1) (r .read-sheet .result) _ _ _ (c .before .read .given .1) (r .read-sheet .ensures))) refl
 
 same-length-3 : tie.Need-same-length-3
 same-length-3 c = search needs

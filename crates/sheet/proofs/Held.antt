@@ -1,21 +1,20 @@
 -- What the reader leaves in room for the largest sheet: the sheet in the first places, or the file's own refusal.
-use mathlib.Core.Path.{_≡_, refl, ap, _∙_, subst}
+use mathlib.Core.Path.{_≡_, refl, sym, ap, _∙_, subst}
 use mathlib.Core.List.{List, [], _∷_, _++_}
-use Prim.Native.Nat.{ℕ}
+use Prim.Native.Nat.{ℕ, _≤_}
 use native.Mathlib.Omega.{arith}
 use borrow.Author.Tests.{le-leb}
 use lib.IntN.{ℤ}
 use lib.ListN.{length, take, drop}
 use lib.Seq.{take-append-seam}
-use Rattle.tables.specs.Sheets.{Sheet, sheet, places}
-use Rattle.tables.proofs.Laws.{accepted, few-places}
+use Rattle.tables.specs.Sheets.{Sheet, sheet, places, refusal}
+use Rattle.tables.proofs.Laws.{Sizes, accepted, few-places}
 use Rattle.sheet.specs.File.{Part, got, refused, sheetIn}
 use Rattle.sheet.specs.Answers.{Reading, reading, readOf, readInto, answerRead, Reads}
 use Rattle.sheet.specs.declared.Read.{Read}
 use Rattle.sheet.specs.declared.Read.the-variants as read
 use Rattle.sheet.proofs.Admitted.{read-admitted}
 use Rattle.sheet.proofs.Sheets.{sheeted}
-use Rattle.host.specs.Host.{AnswersPart}
 
 -- the first places of what begins with a list of that length
 front : {A : Type 0} (k : ℕ) (xs ys : List A) → length xs ≡ k → take k (xs ++ ys) ≡ xs
@@ -60,11 +59,22 @@ module _ (file : List ℕ) (tables₀ : List ℤ) (schedule₀ : List ℕ) (long
   pub read-held : (r : Read) (n m positions : ℕ) (tables : List ℤ) (schedule : List ℕ) → r ≡ read.Done n m positions → Reads file tables₀ schedule₀ r tables schedule → Held n m positions tables schedule
   read-held r n m positions tables schedule e h = done (sheetIn file) refl n m positions tables schedule (subst (λ (x : Read). Reads file tables₀ schedule₀ x tables schedule) e h)
 
-  stopped : (x : Part Sheet) → sheetIn file ≡ x → (p q k : ℕ) (tables : List ℤ) (schedule : List ℕ)
-      → reading (answerRead (read.Refused k)) tables schedule ≡ readOf x tables₀ schedule₀ → AnswersPart x p q k
-  stopped (got s next) e p q k tables schedule h = absurd (omega (arith, ap (λ (r : Reading). length (r .answer .values)) (h ∙ roomy s next e)))
-  stopped (refused j) e p q k tables schedule h = ap (λ (r : Reading). r .answer .number) h
+  stopped : (x : Part Sheet) → sheetIn file ≡ x → (k : ℕ) (tables : List ℤ) (schedule : List ℕ) → reading (answerRead (read.Refused k)) tables schedule ≡ readOf x tables₀ schedule₀ → x ≡ refused k
+  stopped (got s next) e k tables schedule h = absurd (omega (arith, ap (λ (r : Reading). length (r .answer .values)) (h ∙ roomy s next e)))
+  stopped (refused j) e k tables schedule h = ap refused (sym (ap (λ (r : Reading). r .answer .number) h))
 
   -- THEOREM: where the reader refuses, its number is the file's own refusal
-  pub read-refused : (r : Read) (p q k : ℕ) (tables : List ℤ) (schedule : List ℕ) → r ≡ read.Refused k → Reads file tables₀ schedule₀ r tables schedule → AnswersPart (sheetIn file) p q k
-  read-refused r p q k tables schedule e h = stopped (sheetIn file) refl p q k tables schedule (subst (λ (x : Read). Reads file tables₀ schedule₀ x tables schedule) e h)
+  pub read-refused : (r : Read) (k : ℕ) (tables : List ℤ) (schedule : List ℕ) → r ≡ read.Refused k → Reads file tables₀ schedule₀ r tables schedule → sheetIn file ≡ refused k
+  read-refused r k tables schedule e h = stopped (sheetIn file) refl k tables schedule (subst (λ (x : Read). Reads file tables₀ schedule₀ x tables schedule) e h)
+
+-- that sheet is admitted, and so its places are few
+module _ {file : List ℕ} {tables₀ : List ℤ} {schedule₀ : List ℕ} {long : length tables₀ ≡ 4608} {wide : length schedule₀ ≡ 16} {n m positions : ℕ} {tables : List ℤ} {schedule : List ℕ}
+    (h : Held file tables₀ schedule₀ long wide n m positions tables schedule) where
+  pub held-admitted : refusal (sheet n m positions (take (places n m) tables) (take positions schedule)) ≡ 0
+  held-admitted = read-admitted file _ _ (h .is)
+
+  pub held-sizes : Sizes (sheet n m positions (take (places n m) tables) (take positions schedule))
+  held-sizes = accepted _ held-admitted .size
+
+  pub held-few : places n m ≤ 4608
+  held-few = few-places n m (held-sizes .few-events) (held-sizes .few-modes)
