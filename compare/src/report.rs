@@ -21,15 +21,7 @@ struct Left {
 /// Has a report written and judges it; the number that its first line stands for, or
 /// that of the call, if all is right.
 pub fn compare(report: Report, file: &[u8], random: &mut Random) -> Result<u32, Difference> {
-    let places = random.pick(&[
-        PLACES,
-        PLACES,
-        PLACES,
-        PLACES + 1,
-        3 * PLACES,
-        PLACES - 1,
-        0,
-    ]);
+    let places = places(random);
     let mut out = Buffer::new(random, places);
     let mut values = Buffer::new(random, VALUES);
     let number = report(file, out.lend(), values.lend());
@@ -49,6 +41,15 @@ pub fn compare(report: Report, file: &[u8], random: &mut Random) -> Result<u32, 
         proved: left.show(),
         second: Right::new(file).to_string(),
     })
+}
+
+/// As many places as are asked for, or more, or too few.
+fn places(random: &mut Random) -> usize {
+    match random.below(10) {
+        0 => random.pick(&[0, 50, PLACES - 1]),
+        1..=3 => PLACES + random.pick(&[1, 30, 2 * PLACES]),
+        _ => PLACES,
+    }
 }
 
 /// "9: a buffer to be written is too short", and nothing is altered.

@@ -22,7 +22,7 @@ pub fn limit(kind: Kind) -> usize {
         Kind::Reader | Kind::Writer => 16,
         Kind::Ask => 256,
         Kind::Ends | Kind::Host => 264,
-        Kind::Report => 320,
+        Kind::Report => 280,
     }
 }
 
