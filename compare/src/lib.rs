@@ -12,8 +12,8 @@
 //!   one input each.
 //! - [`circuit`]: circuits in buffers.
 //! - [`held`]: a sheet that the proved reader has read.
-//! - [`first_line`]: the ends of one sheet, to be held to what is published; [`hand`]: 01's
-//!   cases; [`stack`]: the stack that calls take; [`tried`]: cases tried one by one.
+//! - [`hand`]: 01's cases; [`stack`]: the stack that calls take; [`tried`]: cases tried
+//!   one by one.
 //! - [`difference`]: what is shown of two answers that differ.
 //! - [`kind`], [`comparison`] and [`tally`]: a run over many inputs, and its summary.
 
@@ -29,7 +29,6 @@ pub mod comparison;
 pub mod difference;
 pub mod ends;
 pub mod files;
-pub mod first_line;
 pub mod hand;
 pub mod held;
 pub mod host;

@@ -6,12 +6,11 @@
 #![forbid(unsafe_code)]
 
 use std::env;
-use std::io::{self, Read};
+use std::io;
 use std::process::ExitCode;
 
 use compare::archive;
 use compare::comparison::Comparison;
-use compare::first_line;
 use compare::hand;
 use compare::kind::Kind;
 use compare::stack;
@@ -21,7 +20,6 @@ const USAGE: &str = "\
 usage: compare KIND SEED COUNT      with the second program, on many inputs
        compare hand                 the sheets tried by hand
        compare stack [KIND KIB]     on the largest sheets, in the stack stated or given
-       compare first-line < SHEET   the first line of a report, by the reader and Ends
 KIND   reader, writer, ask, ends, host, report; with SEED and COUNT also all that there are
 SEED   the number that settles the inputs
 COUNT  how many inputs of each kind";
@@ -40,7 +38,6 @@ fn main() -> ExitCode {
         .collect();
     let words: Vec<&str> = arguments.iter().map(String::as_str).collect();
     let done = match words[..] {
-        ["first-line"] => first_line(),
         ["hand"] => Ok(show(&hand::run(&archive::CALLS))),
         ["stack"] => tried(stack::run(&archive::CALLS)),
         ["stack", kind, kib] => in_stack(kind, kib),
@@ -50,18 +47,6 @@ fn main() -> ExitCode {
         eprintln!("compare: {trouble}\n{USAGE}");
         ExitCode::from(2)
     })
-}
-
-/// Prints the first line of the report of the sheet on standard input.
-fn first_line() -> Result<ExitCode, String> {
-    let calls = archive::CALLS;
-    let ends = calls.ends.ok_or("this program is built without ends")?;
-    let mut file = Vec::new();
-    io::stdin()
-        .read_to_end(&mut file)
-        .map_err(|error| error.to_string())?;
-    println!("{}", first_line::of(calls.read, ends, &file));
-    Ok(ExitCode::SUCCESS)
 }
 
 /// Runs the calls of one kind in so much stack.
