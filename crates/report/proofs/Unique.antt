@@ -24,7 +24,7 @@ use Rattle.windows.proofs.Listed.{each-more}
 use Rattle.windows.proofs.Laying.{node-inside}
 use Rattle.ask.specs.Ask.{Earliest}
 use Rattle.ask.proofs.Unique.{plan-table}
-use Rattle.report.specs.Lines.{plan-word, line, numbersLine, timesAt, planLines}
+use Rattle.lines.specs.Lines.{plan-word, line, numbersLine, timesAt, planLines}
 use Rattle.report.specs.Report.{TellsEnds, TellsNone, Tells, judged, Reports, room, Answer, number, Outcome}
 use Rattle.report.specs.Report as report
 
