@@ -1,4 +1,6 @@
+pub mod Again
 pub mod Folds
 pub mod Places
 pub mod Tables
+pub mod Walking
 pub mod Sheets
