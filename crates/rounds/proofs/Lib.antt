@@ -1,4 +1,5 @@
 pub mod Again
+pub mod Slot
 pub mod Folds
 pub mod Places
 pub mod Tables
