@@ -134,51 +134,57 @@ module _ (l : List Item) (job : Job) (schedule : List ℕ) (posed : Posed job sc
 
       -- THEOREM: the turn after it stands as this one did, and fewer are left
       pub state-more : (t′ : Turn) (old′ : List ℕ) → Next t job schedule old new′ t′ old′ → State t′ old′ new′ marks′ × (t′ .left < t .left)
-      state-more t′ old′ (on h e o) =
-          (rw (e, o) (record {
-            old-long = s .old-long;
-            new-long = ln;
-            marks-long = lm;
-            walking = λ k. record {
-              began = w .began;
-              is = refl;
-              here = h;
-              before = w .before;
-              turns = omega (arith, w .turns);
-              long = w .long;
-              running = w .running;
-              done = done-more;
-            };
-            over = λ k. absurd (omega (arith, w .turns, mul-le-mul-right U (w .before)));
-          }), rw e (omega arith))
+      state-more t′ old′ (on h e o) = (
+        rw (e, o) (record {
+          old-long = s .old-long;
+          new-long = ln;
+          marks-long = lm;
+          walking = λ k. record {
+            began = w .began;
+            is = refl;
+            here = h;
+            before = w .before;
+            turns = omega (arith, w .turns);
+            long = w .long;
+            running = w .running;
+            done = done-more;
+          };
+          over = λ k. absurd (omega (arith, w .turns, mul-le-mul-right U (w .before)));
+        }),
+        rw e (omega arith),
+      )
       state-more t′ old′ (still h d e o) =
-          let last : t .position + 1 ≡ U = omega (arith, w .here) in
-          (rw (e, o) (record {
-            old-long = s .old-long;
-            new-long = ln;
-            marks-long = lm;
-            walking = λ k. absurd (omega arith);
-            over = λ k. ran-still A N (t .round) (t .node) old (w .began) new′ marks′ inside few (w .before) (s .old-long) (w .long) (w .running) (rw last at done-more) N d refl;
-          }), rw e more)
+          let last : t .position + 1 ≡ U = omega (arith, w .here) in (
+            rw (e, o) (record {
+              old-long = s .old-long;
+              new-long = ln;
+              marks-long = lm;
+              walking = λ k. absurd (omega arith);
+              over = λ k. ran-still A N (t .round) (t .node) old (w .began) new′ marks′ inside few (w .before) (s .old-long) (w .long) (w .running) (rw last at done-more) N d refl;
+            }),
+            rw e more,
+          )
       state-more t′ old′ (again h d b f e o) =
           let last : t .position + 1 ≡ U = omega (arith, w .here) in
-          let run = running-more A N (t .round) (t .node) old (w .began) new′ marks′ inside few (w .before) (s .old-long) (w .long) (w .running) (rw last at done-more) d f (λ x. omega arith) in
-          (rw (e, o) (record {
-            old-long = ln;
-            new-long = ln;
-            marks-long = lm;
-            walking = λ k. record {
-              began = marks′;
-              is = refl;
-              here = posed .limits .some-positions;
-              before = elim (decLt (t .round + 1) N) [ yes x ↦ x | no x ↦ absurd (omega (arith, w .turns, mul-le-mul-right {m = N} {n = t .round + 1} U (omega arith))) ];
-              turns = omega (arith, w .turns);
-              long = lm;
-              running = run;
-              done = round-none l (job .start) schedule (job .n) (job .positions) (job .p) (job .q) new′ ((t .round + 1) * 192) (board new′ marks′);
-            };
-            over = λ k. ran-all A N (t .round + 1) d new′ marks′ (full k) (omega (arith, w .before)) run;
-          }), rw e (omega arith))
+          let run = running-more A N (t .round) (t .node) old (w .began) new′ marks′ inside few (w .before) (s .old-long) (w .long) (w .running) (rw last at done-more) d f (λ x. omega arith) in (
+            rw (e, o) (record {
+              old-long = ln;
+              new-long = ln;
+              marks-long = lm;
+              walking = λ k. record {
+                began = marks′;
+                is = refl;
+                here = posed .limits .some-positions;
+                before = elim (decLt (t .round + 1) N) [ yes x ↦ x | no x ↦ absurd (omega (arith, w .turns, mul-le-mul-right {m = N} {n = t .round + 1} U (omega arith))) ];
+                turns = omega (arith, w .turns);
+                long = lm;
+                running = run;
+                done = round-none l (job .start) schedule (job .n) (job .positions) (job .p) (job .q) new′ ((t .round + 1) * 192) (board new′ marks′);
+              };
+              over = λ k. ran-all A N (t .round + 1) d new′ marks′ (full k) (omega (arith, w .before)) run;
+            }),
+            rw e (omega arith),
+          )
         where
           full : t .left - 1 ≡ 0 → t .round + 1 ≡ N
           full k = elim (decLt (t .round + 1) N) [

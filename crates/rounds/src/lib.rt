@@ -208,7 +208,13 @@ fn walk(
     let windows = &list[..];
     let mut turn = begin;
     while 0 < turn.left {
-        pass(&windows[turn.first..turn.last], turn, old, &mut new[..], &mut marks[..]);
+        pass(
+            &windows[turn.first..turn.last],
+            turn,
+            old,
+            &mut new[..],
+            &mut marks[..],
+        );
         turn = next(turn, job, schedule, &mut old[..], new);
     }
     turn
@@ -220,7 +226,7 @@ pub fn run(list: [layout::Window; 4608], job: Job, schedule: &[u8], marks: &mut 
     ensures { λ r. ⌜ Ran (roundOf list job (now (schedule .entry))) (job .positions * job .n) (r .rounds) (r .node) (r .times) (now (marks .exit)) ⌝ }
 {
     let mut old = zeros();
-    let mut new = zeros();
+    let mut new = old;
     let turns = job.positions * job.n * job.positions;
     let begin = turn_at(turns, 0, 0, 0, job, schedule);
     let end = walk(list, begin, job, schedule, &mut old, &mut new, marks);

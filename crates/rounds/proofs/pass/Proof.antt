@@ -275,9 +275,9 @@ module _ {M : Type 1} (𝓤 : URA M) (H : Heap 𝓤) (A : Atoms 𝓤) (W : Given
           leaves-loop ! (load ! (from ! (stop !)) (look ! 8 refl)) $ exec ! (𝓣 .C) (𝓣 .Λ) En mir.t-3 (atRet En Post) $
           assigns ! (of-opd ! (unit-lit !)) (from ! (stop !)) (init ! 16 refl (tt, tt)) $
           move ! (0 ∷ 17 ∷ []) $ shuts-slice ! tt R q′ ws b o $
-          returns ! (look ! 16 refl) $ forget ! 8 refl $ forget ! 9 refl $ forget ! 10 refl $ forget ! 11 refl $ forget ! 12 refl $ forget ! 13 refl $ forget ! 14 refl $ forget ! 15 refl $ forget ! 16 refl $ 
-          move ! (16 ∷ 23 ∷ []) $ free1 ! $ move ! (15 ∷ 22 ∷ []) $ free1 ! $ move ! (14 ∷ 21 ∷ []) $ free1 ! $ move ! (13 ∷ 20 ∷ []) $ free1 ! $ move ! (12 ∷ 19 ∷ []) $ free1 ! $ move ! (11 ∷ 18 ∷ []) $ free1 ! $ 
-          move ! (10 ∷ 17 ∷ []) $ free1 ! $ move ! (9 ∷ 16 ∷ []) $ free1 ! $ move ! (8 ∷ 15 ∷ []) $ free1 ! $ move ! (7 ∷ 14 ∷ []) $ free1 ! $ move ! (6 ∷ 13 ∷ []) $ free1 ! $ move ! (5 ∷ 12 ∷ []) $ free1 ! $ 
+          returns ! (look ! 16 refl) $ forget ! 8 refl $ forget ! 9 refl $ forget ! 10 refl $ forget ! 11 refl $ forget ! 12 refl $ forget ! 13 refl $ forget ! 14 refl $ forget ! 15 refl $ forget ! 16 refl $
+          move ! (16 ∷ 23 ∷ []) $ free1 ! $ move ! (15 ∷ 22 ∷ []) $ free1 ! $ move ! (14 ∷ 21 ∷ []) $ free1 ! $ move ! (13 ∷ 20 ∷ []) $ free1 ! $ move ! (12 ∷ 19 ∷ []) $ free1 ! $ move ! (11 ∷ 18 ∷ []) $ free1 ! $
+          move ! (10 ∷ 17 ∷ []) $ free1 ! $ move ! (9 ∷ 16 ∷ []) $ free1 ! $ move ! (8 ∷ 15 ∷ []) $ free1 ! $ move ! (7 ∷ 14 ∷ []) $ free1 ! $ move ! (6 ∷ 13 ∷ []) $ free1 ! $ move ! (5 ∷ 12 ∷ []) $ free1 ! $
           move ! (4 ∷ 11 ∷ []) $ free1 ! $ move ! (3 ∷ 10 ∷ []) $ free1 ! $ move ! (2 ∷ 9 ∷ []) $ free1 ! $ move ! (1 ∷ 8 ∷ []) $ free1 ! $ free0 ! $
           keep ! (0 ∷ 4 ∷ 5 ∷ 6 ∷ 2 ∷ 3 ∷ []) $ by ! (exits (D (n - zero) .times) (D (n - zero) .marks) (ap D (sub-zero n) ∙ pass-all (old .now) line (turn₀ .at) ws (turn₀ .first) (board (new .now) (marks .now))) (long-new (n - zero)) (long-marks (n - zero))))
       turn (suc t) =
@@ -302,10 +302,10 @@ module _ {M : Type 1} (𝓤 : URA M) (H : Heap 𝓤) (A : Atoms 𝓤) (W : Given
           rewrite ! 19 (λ (k : ℕ). ‵ (New (D (n - suc t) .times) k)) (sym (long-new (n - suc t))) refl $
           rewrite ! 1 (λ (k : ℕ). ‵ (fat fullShare ty₁₅ l₁₅ 0 (sliceVal (marks .ptr) k))) (sym (long-marks (n - suc t))) refl $
           rewrite ! 20 (λ (k : ℕ). ‵ (Marks (D (n - suc t) .marks) k)) (sym (long-marks (n - suc t))) refl $
-          lft-new ! tt (λ ν. move ! (20 ∷ 23 ∷ []) $ 
+          lft-new ! tt (λ ν. move ! (20 ∷ 23 ∷ []) $
           use2 W (later (some (λ (δ : GName). ‵ (MutSlice (named 1) (ν ∷ []) u64 .own (x new δ (D (n - suc t) .times)) (sliceVal (new .ptr) (length (D (n - suc t) .times)) ∷ [])) ⊛ ‵ (LentAgain u64 κ₂ (ν ∷ []) q₂ (new .name) (new .ptr .0) (new .ptr .1) δ (D (n - suc t) .times)))))
           (lends-again u64 κ₂ (ν ∷ []) q₂ (new .name) (new .ptr .0) (new .ptr .1) 𝓤 H A W (named 2) (named 1) (D (n - suc t) .times)) $ await ! tt $ pick ! (λ δ. split ! $
-          lft-new ! tt (λ ξ. move ! (23 ∷ 25 ∷ []) $ 
+          lft-new ! tt (λ ξ. move ! (23 ∷ 25 ∷ []) $
           use2 W (later (some (λ (ε : GName). ‵ (MutSlice (named 2) (ξ ∷ []) u32 .own (x marks ε (D (n - suc t) .marks)) (sliceVal (marks .ptr) (length (D (n - suc t) .marks)) ∷ [])) ⊛ ‵ (LentAgain u32 κ₃ (ξ ∷ []) q₃ (marks .name) (marks .ptr .0) (marks .ptr .1) ε (D (n - suc t) .marks)))))
           (lends-again u32 κ₃ (ξ ∷ []) q₃ (marks .name) (marks .ptr .0) (marks .ptr .1) 𝓤 H A W (named 3) (named 2) (D (n - suc t) .marks)) $ await ! tt $ pick ! (λ ε. split ! $
           move ! (24 ∷ []) $ use1 W (‵ Old ⊛ ‵ Old) (shr-slice-copy 𝓤 H A W (named 1) κ₁ u64 .twice old (v₂ ∷ [])) $ split ! $
@@ -314,22 +314,22 @@ module _ {M : Type 1} (𝓤 : URA M) (H : Heap 𝓤) (A : Atoms 𝓤) (W : Given
           calls-at ! (fmOf 𝓤 H (W .laws) 𝓣) (Step 𝓤 H A mem run) known (to-step (rec (n - suc t)) (n - suc t) (D (n - suc t) .times) (D (n - suc t) .marks) ν ξ δ ε)
           (and-then ! (load ! (from ! (stop !)) (look ! 9 refl)) (and-then ! (load ! (from ! (stop !)) (look ! 18 refl)) (and-then ! (load ! (from ! (stop !)) (look ! 14 refl)) (and-then ! (load ! (from ! (stop !)) (look ! 17 refl)) (and-then ! (load ! (from ! (stop !)) (look ! 7 refl)) (and-then ! (load ! (from ! (stop !)) (look ! 5 refl)) (no-more !))))))) (λ u.
           use1 W (later (some (λ (r : Unit {0}). ((‵ (flft κ₁ q₁) ⊛ (‵ (flft (ν ∷ []) fullShare) ⊛ (‵ (flft (ξ ∷ []) fullShare) ⊛ ‵ ftrue))) ⊛ ‵ (unit .own r (u ∷ []))) ⊛ raw (ensured 𝓤 H A step.ended (step.clauses 𝓤 H A mem run) (κ₁, (ν ∷ [], (ξ ∷ [], tt))) (rec (n - suc t), (turn₀, (n - suc t, (old, (x new δ (D (n - suc t) .times), (x marks ε (D (n - suc t) .marks), tt)))))) tt r)))) (id⊢ 𝓤 _) $ await ! tt $ pick ! (λ r.
-          split ! $ move ! (1 ∷ []) $ 
+          split ! $ move ! (1 ∷ []) $
           use1 W (some (λ (zs : Unit {0} × (Unit {0} × (Unit {0} × (Unit {0} × (List ℕ × (List ℕ × Unit {0})))))). ‵ (lasts step.ended (κ₁, (ν ∷ [], (ξ ∷ [], tt))) (rec (n - suc t), (turn₀, (n - suc t, (old, (x new δ (D (n - suc t) .times), (x marks ε (D (n - suc t) .marks), tt)))))) zs) ⊛ raw (fact 𝓤 (board (zs .1 .1 .1 .1 .0) (zs .1 .1 .1 .1 .1 .0) ≡ raise (old .now) line (arc (rec (n - suc t)) (turn₀ .at) (turn₀ .first + (n - suc t))) (D (n - suc t)))))) (id⊢ 𝓤 _) $ pick ! (λ zs.
           split ! $ move ! (1 ∷ []) $ heard ! (board (zs .1 .1 .1 .1 .0) (zs .1 .1 .1 .1 .1 .0) ≡ raise (old .now) line (arc (rec (n - suc t)) (turn₀ .at) (turn₀ .first + (n - suc t))) (D (n - suc t))) (λ e.
           fsplit ! $ drop ! $ fsplit ! $ drop ! $ fsplit ! $ drop ! $ fsplit ! $ drop ! $ fsplit ! $ fsplit ! $ move ! (1 ∷ []) $ feqL ! (λ a. move ! (1 ∷ []) $ fsplit ! $ fsplit ! $ move ! (1 ∷ []) $ feqL ! (λ d.
           move ! (3 ∷ []) $ split ! $ move ! (1 ∷ []) $ facts ! unit (Is unit) (shows 𝓤 H A unit) r (u ∷ []) (λ is.
           land ! (from ! (stop !)) (init ! 14 refl (nothing-lawful 𝓤 H A W .typed r (u ∷ []) is .0)) $
-          split ! $ move ! (1 ∷ []) $ split ! $ move ! (1 ∷ []) $ split ! $ move ! (2 ∷ []) $ lft-end ! tt $ move ! (0 ∷ 9 ∷ 6 ∷ []) $ 
+          split ! $ move ! (1 ∷ []) $ split ! $ move ! (1 ∷ []) $ split ! $ move ! (2 ∷ []) $ lft-end ! tt $ move ! (0 ∷ 9 ∷ 6 ∷ []) $
           use3 W (later (‵ (New (zs .1 .1 .1 .1 .0) (length (D (n - suc t) .times))) ⊛ ‵ (flft κ₂ q₂))) (comes-back u64 κ₂ (ν ∷ []) q₂ (new .name) (new .ptr .0) (new .ptr .1) 𝓤 H A W (named 2) (named 1) (D (n - suc t) .times) δ (zs .1 .1 .1 .1 .0) (subst (Room u64) (sym (long-new (n - suc t))) g₃) a) $ await ! tt $ split ! $
-          move ! (2 ∷ []) $ lft-end ! tt $ move ! (0 ∷ 8 ∷ 5 ∷ []) $ 
+          move ! (2 ∷ []) $ lft-end ! tt $ move ! (0 ∷ 8 ∷ 5 ∷ []) $
           use3 W (later (‵ (Marks (zs .1 .1 .1 .1 .1 .0) (length (D (n - suc t) .marks))) ⊛ ‵ (flft κ₃ q₃))) (comes-back u32 κ₃ (ξ ∷ []) q₃ (marks .name) (marks .ptr .0) (marks .ptr .1) 𝓤 H A W (named 3) (named 2) (D (n - suc t) .marks) ε (zs .1 .1 .1 .1 .1 .0) (subst (Room u32) (sym (long-marks (n - suc t))) g₄) d) $ await ! tt $ split ! $
           rewrite ! 2 (λ (k : ℕ). ‵ (New (zs .1 .1 .1 .1 .0) k)) (long-new (n - suc t)) refl $ rewrite ! 2 (λ (l : List ℕ). ‵ (New l (length (new .now)))) (ap (λ (c : Board). c .times) (is-next t f (board (zs .1 .1 .1 .1 .0) (zs .1 .1 .1 .1 .1 .0)) e)) refl $
           rewrite ! 0 (λ (k : ℕ). ‵ (Marks (zs .1 .1 .1 .1 .1 .0) k)) (long-marks (n - suc t)) refl $ rewrite ! 0 (λ (l : List ℕ). ‵ (Marks l (length (marks .now)))) (ap (λ (c : Board). c .marks) (is-next t f (board (zs .1 .1 .1 .1 .0) (zs .1 .1 .1 .1 .1 .0)) e)) refl $
           assigns-last ! (bin ! (load ! (from ! (stop !)) (look ! 18 refl)) (lit ! tt) (record { fits = next-fits n t f (g .0) })) (from ! (stop !)) (store ! 18 refl (tt, record { fits = next-fits n t f (g .0) })) $
           rewrite ! 18 (λ (j : ℕ). ‵ (fat fullShare word l₆ 0 (vint w64 j))) (next n t f) refl $
-          forget ! 9 refl $ forget ! 10 refl $ forget ! 11 refl $ forget ! 12 refl $ forget ! 13 refl $ forget ! 14 refl $ forget ! 15 refl $ forget ! 16 refl $ forget ! 17 refl $ 
-          keep ! (8 ∷ 9 ∷ 10 ∷ 11 ∷ 12 ∷ 13 ∷ 14 ∷ 15 ∷ 16 ∷ 17 ∷ 18 ∷ 19 ∷ 20 ∷ 21 ∷ 22 ∷ 23 ∷ 24 ∷ 25 ∷ 7 ∷ 2 ∷ 0 ∷ 5 ∷ 3 ∷ 1 ∷ 26 ∷ 27 ∷ 28 ∷ 29 ∷ 30 ∷ 31 ∷ 32 ∷ 33 ∷ 34 ∷ 35 ∷ 36 ∷ 37 ∷ 38 ∷ 39 ∷ 40 ∷ 41 ∷ []) $ 
+          forget ! 9 refl $ forget ! 10 refl $ forget ! 11 refl $ forget ! 12 refl $ forget ! 13 refl $ forget ! 14 refl $ forget ! 15 refl $ forget ! 16 refl $ forget ! 17 refl $
+          keep ! (8 ∷ 9 ∷ 10 ∷ 11 ∷ 12 ∷ 13 ∷ 14 ∷ 15 ∷ 16 ∷ 17 ∷ 18 ∷ 19 ∷ 20 ∷ 21 ∷ 22 ∷ 23 ∷ 24 ∷ 25 ∷ 7 ∷ 2 ∷ 0 ∷ 5 ∷ 3 ∷ 1 ∷ 26 ∷ 27 ∷ 28 ∷ 29 ∷ 30 ∷ 31 ∷ 32 ∷ 33 ∷ 34 ∷ 35 ∷ 36 ∷ 37 ∷ 38 ∷ 39 ∷ 40 ∷ 41 ∷ []) $
           use0 W (raw (fact 𝓤 (t ≤ n))) (factI 𝓤 (t ≤ n) (emp 𝓤) (fewer n t f)) $
           again ! _<_ Inv (suc t) t (lt-suc t))))))))))))))
 
@@ -352,11 +352,11 @@ module _ {M : Type 1} (𝓤 : URA M) (H : Heap 𝓤) (A : Atoms 𝓤) (W : Given
           assigns ! (of-opd ! (lit ! tt)) (from ! (stop !)) (init ! 18 refl (tt, record { fits = lit< tt })) $
           rewrite ! 18 (λ (j : ℕ). ‵ (fat fullShare word l₆ 0 (vint w64 j))) (start n) refl $
           -- what the parameters own is taken apart, and so are the tokens
-          move ! (33 ∷ []) $ fsplit ! $ move ! (1 ∷ []) $ fsplit ! $ drop ! $ fsplit ! $ move ! (1 ∷ []) $ fsplit ! $ move ! (1 ∷ []) $ fsplit ! $ move ! (4 ∷ []) $ fsplit ! $ drop ! $ fsplit ! $ drop ! $ 
-          move ! (37 ∷ []) $ split ! $ move ! (1 ∷ []) $ split ! $ move ! (1 ∷ []) $ split ! $ move ! (1 ∷ []) $ split ! $ move ! (5 ∷ 4 ∷ []) $ 
+          move ! (33 ∷ []) $ fsplit ! $ move ! (1 ∷ []) $ fsplit ! $ drop ! $ fsplit ! $ move ! (1 ∷ []) $ fsplit ! $ move ! (1 ∷ []) $ fsplit ! $ move ! (4 ∷ []) $ fsplit ! $ drop ! $ fsplit ! $ drop ! $
+          move ! (37 ∷ []) $ split ! $ move ! (1 ∷ []) $ split ! $ move ! (1 ∷ []) $ split ! $ move ! (1 ∷ []) $ split ! $ move ! (5 ∷ 4 ∷ []) $
           looks-slice ! tt R (Is R) (shows 𝓤 H A R) (LL.vals T.the-type T′.the-laws) (LL.tells T.the-type T′.the-laws) (LL.copy T.the-type T′.the-copy 𝓤 H A W) ws b o (λ q′.
           rewrite ! 9 (λ (l : List ℕ). ‵ (New l (length (new .now)))) begin-new refl $ rewrite ! 7 (λ (l : List ℕ). ‵ (Marks l (length (marks .now)))) begin-marks refl $
-          first ! $ blocks ! $ keep ! (0 ∷ 11 ∷ 13 ∷ 15 ∷ 17 ∷ 19 ∷ 21 ∷ 23 ∷ 25 ∷ 27 ∷ 29 ∷ 31 ∷ 33 ∷ 35 ∷ 37 ∷ 39 ∷ 41 ∷ 1 ∷ 10 ∷ 9 ∷ 7 ∷ 6 ∷ 5 ∷ 3 ∷ 42 ∷ 40 ∷ 38 ∷ 36 ∷ 34 ∷ 32 ∷ 30 ∷ 28 ∷ 26 ∷ 24 ∷ 22 ∷ 20 ∷ 18 ∷ 16 ∷ 14 ∷ 12 ∷ []) $ 
+          first ! $ blocks ! $ keep ! (0 ∷ 11 ∷ 13 ∷ 15 ∷ 17 ∷ 19 ∷ 21 ∷ 23 ∷ 25 ∷ 27 ∷ 29 ∷ 31 ∷ 33 ∷ 35 ∷ 37 ∷ 39 ∷ 41 ∷ 1 ∷ 10 ∷ 9 ∷ 7 ∷ 6 ∷ 5 ∷ 3 ∷ 42 ∷ 40 ∷ 38 ∷ 36 ∷ 34 ∷ 32 ∷ 30 ∷ 28 ∷ 26 ∷ 24 ∷ 22 ∷ 20 ∷ 18 ∷ 16 ∷ 14 ∷ 12 ∷ []) $
           use0 W (raw (fact 𝓤 (n ≤ n))) (factI 𝓤 (n ≤ n) (emp 𝓤) (whole-n n)) $
           loops ! 𝓣 _<_ (Nat·lt-wfRel .wf) (Inv q′ l₀ l₁ l₂ l₃ l₄ l₅ l₆ l₇ l₈ l₉ l₁₀ l₁₁ l₁₂ l₁₃ l₁₄ l₁₅) (turn q′ l₀ l₁ l₂ l₃ l₄ l₅ l₆ l₇ l₈ l₉ l₁₀ l₁₁ l₁₂ l₁₃ l₁₄ l₁₅) n)
 

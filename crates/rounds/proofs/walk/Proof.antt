@@ -290,8 +290,16 @@ module _ {M : Type 1} (𝓤 : URA M) (H : Heap 𝓤) (A : Atoms 𝓤) (W : Given
 
   -- the call of `pass`
   abbrev to-pass : St → ℕ → ℕ → ℕ → ℕ → ℕ → GName → GName → GName → GName → Pass 𝓤 H A mem run .Ghost
-  to-pass z l α β ν ξ γ γ₁ δ ε = (((α ∷ [], (β ∷ [], (ν ∷ [], (ξ ∷ [], tt)))), (fullShare, (fullShare, (fullShare, (fullShare, tt)))), tt, (lent-part l z γ, (z .turn, (x old γ₁ (z .old), (x new δ (z .new), (x marks ε (z .marks), tt))))),
-    (sliceVal (l, place z) (length (part z)) ∷ [], (TT′.lowered (z .turn) ∷ [], (sliceVal (old .ptr) (length (z .old)) ∷ [], (sliceVal (new .ptr) (length (z .new)) ∷ [], (sliceVal (marks .ptr) (length (z .marks)) ∷ [], tt)))))), tt)
+  to-pass z l α β ν ξ γ γ₁ δ ε = (
+    (
+      (α ∷ [], (β ∷ [], (ν ∷ [], (ξ ∷ [], tt)))),
+      (fullShare, (fullShare, (fullShare, (fullShare, tt)))),
+      tt,
+      (lent-part l z γ, (z .turn, (x old γ₁ (z .old), (x new δ (z .new), (x marks ε (z .marks), tt))))),
+      (sliceVal (l, place z) (length (part z)) ∷ [], (TT′.lowered (z .turn) ∷ [], (sliceVal (old .ptr) (length (z .old)) ∷ [], (sliceVal (new .ptr) (length (z .new)) ∷ [], (sliceVal (marks .ptr) (length (z .marks)) ∷ [], tt))))),
+    ),
+    tt,
+  )
 
   abbrev Given-pass : St → ℕ → ℕ → ℕ → ℕ → ℕ → GName → GName → GName → GName → List (Item 𝓤)
   Given-pass z l α β ν ξ γ γ₁ δ ε = ‵ (ShrSlice (named 0) (α ∷ []) R .own (lent-part l z γ) (sliceVal (l, place z) (length (part z)) ∷ [])) ∷ ‵ (S .own (z .turn) (TT′.lowered (z .turn) ∷ [])) ∷ ‵ (ShrSlice (named 1) (β ∷ []) u64 .own (x old γ₁ (z .old)) (sliceVal (old .ptr) (length (z .old)) ∷ []))
@@ -308,8 +316,16 @@ module _ {M : Type 1} (𝓤 : URA M) (H : Heap 𝓤) (A : Atoms 𝓤) (W : Given
 
   -- the call of `next`, where new is at l
   abbrev to-next : St → List ℕ → ℕ → ℕ → GName → GName → Nexts 𝓤 H A mem run .Ghost
-  to-next z l ν β δ ε = (((κ₀, (ν ∷ [], (β ∷ [], tt))), (q₀, (fullShare, (fullShare, tt))), tt, (z .turn, (job, (schedule, (x old δ (z .old), (x new ε l, tt))))),
-    (TT′.lowered (z .turn) ∷ [], (vj ∷ [], (v₃ ∷ [], (sliceVal (old .ptr) (length (z .old)) ∷ [], (sliceVal (new .ptr) (length l) ∷ [], tt)))))), tt)
+  to-next z l ν β δ ε = (
+    (
+      (κ₀, (ν ∷ [], (β ∷ [], tt))),
+      (q₀, (fullShare, (fullShare, tt))),
+      tt,
+      (z .turn, (job, (schedule, (x old δ (z .old), (x new ε l, tt))))),
+      (TT′.lowered (z .turn) ∷ [], (vj ∷ [], (v₃ ∷ [], (sliceVal (old .ptr) (length (z .old)) ∷ [], (sliceVal (new .ptr) (length l) ∷ [], tt))))),
+    ),
+    tt,
+  )
 
   abbrev Given-next : St → List ℕ → ℕ → ℕ → GName → GName → List (Item 𝓤)
   Given-next z l ν β δ ε = ‵ (S .own (z .turn) (TT′.lowered (z .turn) ∷ [])) ∷ ‵ (J .own job (vj ∷ [])) ∷ ‵ Sched ∷ ‵ (MutSlice (named 1) (ν ∷ []) u64 .own (x old δ (z .old)) (sliceVal (old .ptr) (length (z .old)) ∷ [])) ∷ ‵ (ShrSlice (named 2) (β ∷ []) u64 .own (x new ε l) (sliceVal (new .ptr) (length l) ∷ []))
@@ -412,10 +428,10 @@ module _ {M : Type 1} (𝓤 : URA M) (H : Heap 𝓤) (A : Atoms 𝓤) (W : Given
           assigns ! (agg ! (and-then ! (load ! (from ! (stop !)) (look ! 5 refl)) (and-then ! (load ! (from ! (fld ! refl (stop !))) (look-in ! 24 (sub ! 1 refl (whole !)))) (no-more !)))) (from ! (stop !)) (init ! 4 refl (tt, (tt, (record { fits = g₅ .0 }, tt)))) $
           rewrite ! 6 (λ (k : ℕ). ‵ (fat fullShare mut-slice64 l₂₆ 0 (sliceVal (old .ptr) k))) (sym (long-old (suc t) z good)) refl $ rewrite ! 1 (λ (k : ℕ). ‵ (Old (z .old) k)) (sym (long-old (suc t) z good)) refl $
           rewrite ! 4 (λ (k : ℕ). ‵ (fat fullShare slice64 l₂₈ 0 (sliceVal (new .ptr) k))) (sym (ln ∙ long-new (suc t) z good)) refl $ rewrite ! 2 (λ (k : ℕ). ‵ (New n′ k)) (sym (ln ∙ long-new (suc t) z good)) refl $
-          lft-new ! tt (λ ν. move ! (2 ∷ 37 ∷ []) $ 
+          lft-new ! tt (λ ν. move ! (2 ∷ 37 ∷ []) $
           use2 W (later (some (λ (δ : GName). ‵ (MutSlice (named 1) (ν ∷ []) u64 .own (x old δ (z .old)) (sliceVal (old .ptr) (length (z .old)) ∷ [])) ⊛ ‵ (LentAgain u64 κ₁ (ν ∷ []) q₁ (old .name) (old .ptr .0) (old .ptr .1) δ (z .old)))))
           (lends-again u64 κ₁ (ν ∷ []) q₁ (old .name) (old .ptr .0) (old .ptr .1) 𝓤 H A W (named 1) (named 1) (z .old)) $ await ! tt $ pick ! (λ δ. split ! $
-          lft-new ! tt (λ β. move ! (5 ∷ 39 ∷ []) $ 
+          lft-new ! tt (λ β. move ! (5 ∷ 39 ∷ []) $
           use2 W (later (some (λ (ε : GName). ‵ (ShrSlice (named 2) (β ∷ []) u64 .own (x new ε n′) (sliceVal (new .ptr) (length n′) ∷ [])) ⊛ ‵ (LentShared u64 κ₂ (β ∷ []) q₂ (new .name) (new .ptr .0) (new .ptr .1) n′))))
           (lends-shared u64 κ₂ (β ∷ []) q₂ (new .name) (new .ptr .0) (new .ptr .1) 𝓤 H A W (named 2) (named 2) n′) $ await ! tt $ pick ! (λ ε. split ! $
           move ! (38 ∷ []) $ use1 W (‵ Sched ⊛ ‵ Sched) (shr-slice-copy 𝓤 H A W (named 0) κ₀ u8 .twice schedule (v₃ ∷ [])) $ split ! $
@@ -428,42 +444,42 @@ module _ {M : Type 1} (𝓤 : URA M) (H : Heap 𝓤) (A : Atoms 𝓤) (W : Given
           split ! $ move ! (1 ∷ []) $ heard ! (Next (z .turn) job (schedule .now) (z .old) n′ r (zs .1 .1 .1 .0)) (λ e.
           fsplit ! $ drop ! $ fsplit ! $ drop ! $ fsplit ! $ drop ! $ fsplit ! $ fsplit ! $ move ! (1 ∷ []) $ feqL ! (λ a.
           move ! (2 ∷ []) $ split ! $ move ! (1 ∷ []) $ facts ! S (Is S) (shows 𝓤 H A S) r (u ∷ []) (λ is.
-          split ! $ move ! (1 ∷ []) $ split ! $ move ! (1 ∷ []) $ split ! $ 
-          move ! (2 ∷ []) $ lft-end ! tt $ move ! (0 ∷ 8 ∷ 4 ∷ []) $ 
+          split ! $ move ! (1 ∷ []) $ split ! $ move ! (1 ∷ []) $ split ! $
+          move ! (2 ∷ []) $ lft-end ! tt $ move ! (0 ∷ 8 ∷ 4 ∷ []) $
           use3 W (later (‵ (Old (zs .1 .1 .1 .0) (length (z .old))) ⊛ ‵ (flft κ₁ q₁))) (comes-back u64 κ₁ (ν ∷ []) q₁ (old .name) (old .ptr .0) (old .ptr .1) 𝓤 H A W (named 1) (named 1) (z .old) δ (zs .1 .1 .1 .0) (subst (Room u64) (sym (long-old (suc t) z good)) g₄) a) $ await ! tt $ split ! $
           rewrite ! 0 (λ (k : ℕ). ‵ (Old (zs .1 .1 .1 .0) k)) (long-old (suc t) z good) refl $
-          move ! (2 ∷ []) $ lft-end ! tt $ move ! (0 ∷ 7 ∷ []) $ 
+          move ! (2 ∷ []) $ lft-end ! tt $ move ! (0 ∷ 7 ∷ []) $
           use2 W (later (‵ (New n′ (length n′)) ⊛ ‵ (flft κ₂ q₂))) (shared-back u64 κ₂ (β ∷ []) q₂ (new .name) (new .ptr .0) (new .ptr .1) 𝓤 H A W (named 2) (named 2) n′ (subst (Room u64) (sym (ln ∙ long-new (suc t) z good)) g₅)) $ await ! tt $ split ! $
           rewrite ! 0 (λ (k : ℕ). ‵ (New n′ k)) (ln ∙ long-new (suc t) z good) refl $
           land-last ! (from ! (stop !)) (store ! 8 refl (LL.lawful TT.the-type TT′.the-laws 𝓤 H A W .typed r (u ∷ []) is .0)) $
           rewrite ! 8 (λ (y : Val). ‵ (fat fullShare TT′.mir l₁₀ 0 y)) (ap only (TT′.lowers .val-is r (u ∷ []) is)) refl $
-          forget ! 10 refl $ forget ! 11 refl $ forget ! 12 refl $ forget ! 13 refl $ 
+          forget ! 10 refl $ forget ! 11 refl $ forget ! 12 refl $ forget ! 13 refl $
           -- the state after the turn
           move ! (0 ∷ 9 ∷ []) $ join ! $ move ! (2 ∷ 0 ∷ []) $ join ! $ move ! (7 ∷ 0 ∷ []) $ join ! $
           use0 W (raw (fact 𝓤 (Good (r .left) (record { turn = r; old = zs .1 .1 .1 .0; new = n′; marks = m′ })))) (factI 𝓤 (Good (r .left) (record { turn = r; old = zs .1 .1 .1 .0; new = n′; marks = m′ })) (emp 𝓤) (good-next t z good n′ m′ pass-done ln lm r (zs .1 .1 .1 .0) e .0, refl, subst (λ (us : List Val). Is S r us) (TT′.lowers .val-is r (u ∷ []) is) is)) $ join ! $
           use1 W (some (λ (y : St). Var (r .left) y)) (exI 𝓤 (λ (y : St). mean 𝓤 H A (Var (r .left) y)) (record { turn = r; old = zs .1 .1 .1 .0; new = n′; marks = m′ })) $
-          keep ! (0 ∷ 7 ∷ 8 ∷ 9 ∷ 10 ∷ 11 ∷ 12 ∷ 13 ∷ 14 ∷ 15 ∷ 16 ∷ 17 ∷ 18 ∷ 19 ∷ 20 ∷ 21 ∷ 22 ∷ 23 ∷ 24 ∷ 25 ∷ 26 ∷ 27 ∷ 28 ∷ 29 ∷ 30 ∷ 31 ∷ 32 ∷ 33 ∷ 34 ∷ 35 ∷ 36 ∷ 6 ∷ 4 ∷ 2 ∷ 1 ∷ 37 ∷ 38 ∷ 39 ∷ 40 ∷ 41 ∷ 42 ∷ 43 ∷ 44 ∷ 45 ∷ 46 ∷ 47 ∷ 48 ∷ 49 ∷ 50 ∷ 51 ∷ 52 ∷ 53 ∷ 54 ∷ 55 ∷ 56 ∷ 57 ∷ 58 ∷ 59 ∷ 60 ∷ 61 ∷ 62 ∷ 63 ∷ 64 ∷ 65 ∷ 66 ∷ []) $ 
+          keep ! (0 ∷ 7 ∷ 8 ∷ 9 ∷ 10 ∷ 11 ∷ 12 ∷ 13 ∷ 14 ∷ 15 ∷ 16 ∷ 17 ∷ 18 ∷ 19 ∷ 20 ∷ 21 ∷ 22 ∷ 23 ∷ 24 ∷ 25 ∷ 26 ∷ 27 ∷ 28 ∷ 29 ∷ 30 ∷ 31 ∷ 32 ∷ 33 ∷ 34 ∷ 35 ∷ 36 ∷ 6 ∷ 4 ∷ 2 ∷ 1 ∷ 37 ∷ 38 ∷ 39 ∷ 40 ∷ 41 ∷ 42 ∷ 43 ∷ 44 ∷ 45 ∷ 46 ∷ 47 ∷ 48 ∷ 49 ∷ 50 ∷ 51 ∷ 52 ∷ 53 ∷ 54 ∷ 55 ∷ 56 ∷ 57 ∷ 58 ∷ 59 ∷ 60 ∷ 61 ∷ 62 ∷ 63 ∷ 64 ∷ 65 ∷ 66 ∷ []) $
           again ! _<_ Inv (suc t) (r .left) (lower (z .turn .left) t (r .left) (good .1) (good-next t z good n′ m′ pass-done ln lm r (zs .1 .1 .1 .0) e .1))))))))))))
 
       turn : (t : ℕ) → Sq W (Inv t) (runs (𝓣 .C) (𝓣 .Λ) En mir.turn-1 (anyQ (afterTurn 𝓤 H (Below 𝓤 H A _<_ Inv t) Left)))
       unfolding afterTurn
       turn zero =
-          pick ! (λ z. split ! $ heard ! (Good zero z) (λ good. split ! $ move ! (1 ∷ []) $ split ! $ move ! (1 ∷ []) $ split ! $ 
+          pick ! (λ z. split ! $ heard ! (Good zero z) (λ good. split ! $ move ! (1 ∷ []) $ split ! $ move ! (1 ∷ []) $ split ! $
           assigns ! (bin ! (lit ! tt) (load ! (from ! (fld ! refl (stop !))) (look-in ! 3 (sub ! 0 refl (whole !)))) tt) (from ! (stop !)) (init ! 20 refl (tt, tt)) $
           rewrite ! 20 (λ (y : Bool). ‵ (fat fullShare tyBool l₁₂ 0 (vbool y))) (le-ltb 0 (z .turn .left) (none (z .turn .left) (good .1))) refl $
           leaves-loop ! (load ! (from ! (stop !)) (look ! 20 refl)) $ exec ! (𝓣 .C) (𝓣 .Λ) En mir.t-6 (atRet En Post) $
           assigns ! (of-opd ! (load ! (from ! (stop !)) (look ! 3 refl))) (from ! (stop !)) (init ! 30 refl (LL.lawful TT.the-type TT′.the-laws 𝓤 H A W .typed (z .turn) (TT′.lowered (z .turn) ∷ []) (good .2) .0)) $
           -- the lifetime of the list is over, and the elements are the slot again
           move ! (33 ∷ []) $ lft-end ! tt $ move ! (0 ∷ 33 ∷ []) $ lent-back ! tt $ rewrite ! 0 (λ (k : ℕ). ‵ (arr-parts (shares R) k .part fullShare xs l₈ 0)) long refl $ use1 W (‵ (froom (slot K) l₈ 0)) (from-row 𝓤 H A W K xs l₈) $
-          returns ! (look ! 31 refl) $ forget ! 21 refl $ forget ! 22 refl $ forget ! 4 refl $ forget ! 23 refl $ forget ! 24 refl $ forget ! 25 refl $ forget ! 26 refl $ forget ! 27 refl $ forget ! 28 refl $ forget ! 29 refl $ forget ! 30 refl $ forget ! 31 refl $ 
-          move ! (31 ∷ 38 ∷ []) $ free1 ! $ move ! (30 ∷ 37 ∷ []) $ free1 ! $ move ! (29 ∷ 36 ∷ []) $ free1 ! $ move ! (28 ∷ 35 ∷ []) $ free1 ! $ move ! (27 ∷ 34 ∷ []) $ free1 ! $ move ! (26 ∷ 33 ∷ []) $ free1 ! $ 
-          move ! (25 ∷ 32 ∷ []) $ free1 ! $ move ! (24 ∷ 31 ∷ []) $ free1 ! $ move ! (0 ∷ 30 ∷ []) $ free1 ! $ move ! (22 ∷ 29 ∷ []) $ free1 ! $ move ! (3 ∷ 28 ∷ []) $ free1 ! $ move ! (20 ∷ 27 ∷ []) $ free1 ! $ 
-          move ! (19 ∷ 26 ∷ []) $ free1 ! $ move ! (18 ∷ 25 ∷ []) $ free1 ! $ move ! (17 ∷ 24 ∷ []) $ free1 ! $ move ! (16 ∷ 23 ∷ []) $ free1 ! $ move ! (15 ∷ 22 ∷ []) $ free1 ! $ move ! (14 ∷ 21 ∷ []) $ free1 ! $ 
-          move ! (13 ∷ 20 ∷ []) $ free1 ! $ move ! (12 ∷ 19 ∷ []) $ free1 ! $ move ! (11 ∷ 18 ∷ []) $ free1 ! $ move ! (10 ∷ 17 ∷ []) $ free1 ! $ move ! (9 ∷ 16 ∷ []) $ free1 ! $ move ! (8 ∷ 15 ∷ []) $ free1 ! $ 
+          returns ! (look ! 31 refl) $ forget ! 21 refl $ forget ! 22 refl $ forget ! 4 refl $ forget ! 23 refl $ forget ! 24 refl $ forget ! 25 refl $ forget ! 26 refl $ forget ! 27 refl $ forget ! 28 refl $ forget ! 29 refl $ forget ! 30 refl $ forget ! 31 refl $
+          move ! (31 ∷ 38 ∷ []) $ free1 ! $ move ! (30 ∷ 37 ∷ []) $ free1 ! $ move ! (29 ∷ 36 ∷ []) $ free1 ! $ move ! (28 ∷ 35 ∷ []) $ free1 ! $ move ! (27 ∷ 34 ∷ []) $ free1 ! $ move ! (26 ∷ 33 ∷ []) $ free1 ! $
+          move ! (25 ∷ 32 ∷ []) $ free1 ! $ move ! (24 ∷ 31 ∷ []) $ free1 ! $ move ! (0 ∷ 30 ∷ []) $ free1 ! $ move ! (22 ∷ 29 ∷ []) $ free1 ! $ move ! (3 ∷ 28 ∷ []) $ free1 ! $ move ! (20 ∷ 27 ∷ []) $ free1 ! $
+          move ! (19 ∷ 26 ∷ []) $ free1 ! $ move ! (18 ∷ 25 ∷ []) $ free1 ! $ move ! (17 ∷ 24 ∷ []) $ free1 ! $ move ! (16 ∷ 23 ∷ []) $ free1 ! $ move ! (15 ∷ 22 ∷ []) $ free1 ! $ move ! (14 ∷ 21 ∷ []) $ free1 ! $
+          move ! (13 ∷ 20 ∷ []) $ free1 ! $ move ! (12 ∷ 19 ∷ []) $ free1 ! $ move ! (11 ∷ 18 ∷ []) $ free1 ! $ move ! (10 ∷ 17 ∷ []) $ free1 ! $ move ! (9 ∷ 16 ∷ []) $ free1 ! $ move ! (8 ∷ 15 ∷ []) $ free1 ! $
           move ! (7 ∷ 14 ∷ []) $ free1 ! $ move ! (6 ∷ 13 ∷ []) $ free1 ! $ move ! (5 ∷ 12 ∷ []) $ free1 ! $ move ! (4 ∷ 11 ∷ []) $ free1 ! $ move ! (3 ∷ 10 ∷ []) $ free1 ! $ free0 ! $
           keep ! (5 ∷ 6 ∷ 7 ∷ 8 ∷ 2 ∷ 0 ∷ 1 ∷ []) $ by ! (exits (z .turn) (z .old) (z .new) (z .marks) (good .0 .over (good .1)) (long-old zero z good) (long-new zero z good) (long-marks zero z good) (good .2))))
       turn (suc t) =
-          pick ! (λ z. split ! $ heard ! (Good (suc t) z) (λ good. split ! $ move ! (1 ∷ []) $ split ! $ move ! (1 ∷ []) $ split ! $ 
+          pick ! (λ z. split ! $ heard ! (Good (suc t) z) (λ good. split ! $ move ! (1 ∷ []) $ split ! $ move ! (1 ∷ []) $ split ! $
           assigns ! (bin ! (lit ! tt) (load ! (from ! (fld ! refl (stop !))) (look-in ! 3 (sub ! 0 refl (whole !)))) tt) (from ! (stop !)) (init ! 20 refl (tt, tt)) $
           rewrite ! 20 (λ (y : Bool). ‵ (fat fullShare tyBool l₁₂ 0 (vbool y))) (lt-ltb 0 (z .turn .left) (more t z good)) refl $
           stays ! (load ! (from ! (stop !)) (look ! 20 refl)) $
@@ -485,13 +501,13 @@ module _ {M : Type 1} (𝓤 : URA M) (H : Heap 𝓤) (A : Atoms 𝓤) (W : Given
           rewrite ! 12 (λ (k : ℕ). ‵ (fat fullShare slice64 l₂₀ 0 (sliceVal (old .ptr) k))) (sym (long-old (suc t) z good)) refl $ rewrite ! 2 (λ (k : ℕ). ‵ (Old (z .old) k)) (sym (long-old (suc t) z good)) refl $
           rewrite ! 10 (λ (k : ℕ). ‵ (fat fullShare mut-slice64 l₂₂ 0 (sliceVal (new .ptr) k))) (sym (long-new (suc t) z good)) refl $ rewrite ! 0 (λ (k : ℕ). ‵ (New (z .new) k)) (sym (long-new (suc t) z good)) refl $
           rewrite ! 8 (λ (k : ℕ). ‵ (fat fullShare mut-slice32 l₂₄ 0 (sliceVal (marks .ptr) k))) (sym (long-marks (suc t) z good)) refl $ rewrite ! 1 (λ (k : ℕ). ‵ (Marks (z .marks) k)) (sym (long-marks (suc t) z good)) refl $
-          lft-new ! tt (λ β. move ! (3 ∷ 37 ∷ []) $ 
+          lft-new ! tt (λ β. move ! (3 ∷ 37 ∷ []) $
           use2 W (later (some (λ (γ₁ : GName). ‵ (ShrSlice (named 1) (β ∷ []) u64 .own (x old γ₁ (z .old)) (sliceVal (old .ptr) (length (z .old)) ∷ [])) ⊛ ‵ (LentShared u64 κ₁ (β ∷ []) q₁ (old .name) (old .ptr .0) (old .ptr .1) (z .old)))))
           (lends-shared u64 κ₁ (β ∷ []) q₁ (old .name) (old .ptr .0) (old .ptr .1) 𝓤 H A W (named 1) (named 1) (z .old)) $ await ! tt $ pick ! (λ γ₁. split ! $
-          lft-new ! tt (λ ν. move ! (4 ∷ 39 ∷ []) $ 
+          lft-new ! tt (λ ν. move ! (4 ∷ 39 ∷ []) $
           use2 W (later (some (λ (δ : GName). ‵ (MutSlice (named 2) (ν ∷ []) u64 .own (x new δ (z .new)) (sliceVal (new .ptr) (length (z .new)) ∷ [])) ⊛ ‵ (LentAgain u64 κ₂ (ν ∷ []) q₂ (new .name) (new .ptr .0) (new .ptr .1) δ (z .new)))))
           (lends-again u64 κ₂ (ν ∷ []) q₂ (new .name) (new .ptr .0) (new .ptr .1) 𝓤 H A W (named 2) (named 2) (z .new)) $ await ! tt $ pick ! (λ δ. split ! $
-          lft-new ! tt (λ ξ. move ! (7 ∷ 41 ∷ []) $ 
+          lft-new ! tt (λ ξ. move ! (7 ∷ 41 ∷ []) $
           use2 W (later (some (λ (ε : GName). ‵ (MutSlice (named 3) (ξ ∷ []) u32 .own (x marks ε (z .marks)) (sliceVal (marks .ptr) (length (z .marks)) ∷ [])) ⊛ ‵ (LentAgain u32 κ₃ (ξ ∷ []) q₃ (marks .name) (marks .ptr .0) (marks .ptr .1) ε (z .marks)))))
           (lends-again u32 κ₃ (ξ ∷ []) q₃ (marks .name) (marks .ptr .0) (marks .ptr .1) 𝓤 H A W (named 3) (named 3) (z .marks)) $ await ! tt $ pick ! (λ ε. split ! $
           move ! (37 ∷ []) $ use1 W (‵ Ws ⊛ ‵ Ws) (shr-slice-copy 𝓤 H A W (named 0) (α ∷ []) R .twice lent (sliceVal (l₈, 0) n ∷ [])) $ split ! $ move ! (0 ∷ 40 ∷ []) $ fsplit ! $ fsplit ! $ drop ! $ fjoin ! $
@@ -508,17 +524,17 @@ module _ {M : Type 1} (𝓤 : URA M) (H : Heap 𝓤) (A : Atoms 𝓤) (W : Given
           fsplit ! $ drop ! $ fsplit ! $ drop ! $ fsplit ! $ drop ! $ fsplit ! $ fsplit ! $ move ! (1 ∷ []) $ feqL ! (λ a. move ! (1 ∷ []) $ fsplit ! $ fsplit ! $ move ! (1 ∷ []) $ feqL ! (λ d.
           move ! (3 ∷ []) $ split ! $ move ! (1 ∷ []) $ facts ! unit (Is unit) (shows 𝓤 H A unit) r (u ∷ []) (λ is.
           land ! (from ! (stop !)) (init ! 24 refl (nothing-lawful 𝓤 H A W .typed r (u ∷ []) is .0)) $
-          split ! $ move ! (1 ∷ []) $ split ! $ move ! (1 ∷ []) $ split ! $ move ! (1 ∷ []) $ split ! $ 
-          move ! (3 ∷ []) $ lft-end ! tt $ move ! (0 ∷ 11 ∷ []) $ 
+          split ! $ move ! (1 ∷ []) $ split ! $ move ! (1 ∷ []) $ split ! $ move ! (1 ∷ []) $ split ! $
+          move ! (3 ∷ []) $ lft-end ! tt $ move ! (0 ∷ 11 ∷ []) $
           use2 W (later (‵ (Old (z .old) (length (z .old))) ⊛ ‵ (flft κ₁ q₁))) (shared-back u64 κ₁ (β ∷ []) q₁ (old .name) (old .ptr .0) (old .ptr .1) 𝓤 H A W (named 1) (named 1) (z .old) (subst (Room u64) (sym (long-old (suc t) z good)) g₄)) $ await ! tt $ split ! $
           rewrite ! 0 (λ (k : ℕ). ‵ (Old (z .old) k)) (long-old (suc t) z good) refl $
-          move ! (4 ∷ []) $ lft-end ! tt $ move ! (0 ∷ 11 ∷ 8 ∷ []) $ 
+          move ! (4 ∷ []) $ lft-end ! tt $ move ! (0 ∷ 11 ∷ 8 ∷ []) $
           use3 W (later (‵ (New (zs .1 .1 .1 .0) (length (z .new))) ⊛ ‵ (flft κ₂ q₂))) (comes-back u64 κ₂ (ν ∷ []) q₂ (new .name) (new .ptr .0) (new .ptr .1) 𝓤 H A W (named 2) (named 2) (z .new) δ (zs .1 .1 .1 .0) (subst (Room u64) (sym (long-new (suc t) z good)) g₅) a) $ await ! tt $ split ! $
           rewrite ! 0 (λ (k : ℕ). ‵ (New (zs .1 .1 .1 .0) k)) (long-new (suc t) z good) refl $
-          move ! (4 ∷ []) $ lft-end ! tt $ move ! (0 ∷ 10 ∷ 7 ∷ []) $ 
+          move ! (4 ∷ []) $ lft-end ! tt $ move ! (0 ∷ 10 ∷ 7 ∷ []) $
           use3 W (later (‵ (Marks (zs .1 .1 .1 .1 .0) (length (z .marks))) ⊛ ‵ (flft κ₃ q₃))) (comes-back u32 κ₃ (ξ ∷ []) q₃ (marks .name) (marks .ptr .0) (marks .ptr .1) 𝓤 H A W (named 3) (named 3) (z .marks) ε (zs .1 .1 .1 .1 .0) (subst (Room u32) (sym (long-marks (suc t) z good)) g₆) d) $ await ! tt $ split ! $
           rewrite ! 0 (λ (k : ℕ). ‵ (Marks (zs .1 .1 .1 .1 .0) k)) (long-marks (suc t) z good) refl $
-          forget ! 15 refl $ forget ! 16 refl $ forget ! 17 refl $ forget ! 18 refl $ forget ! 19 refl $ forget ! 20 refl $ forget ! 21 refl $ forget ! 22 refl $ forget ! 23 refl $ forget ! 24 refl $ forget ! 25 refl $ forget ! 26 refl $ forget ! 27 refl $ 
+          forget ! 15 refl $ forget ! 16 refl $ forget ! 17 refl $ forget ! 18 refl $ forget ! 19 refl $ forget ! 20 refl $ forget ! 21 refl $ forget ! 22 refl $ forget ! 23 refl $ forget ! 24 refl $ forget ! 25 refl $ forget ! 26 refl $ forget ! 27 refl $
           keep ! (10 ∷ 4 ∷ 2 ∷ 0 ∷ 11 ∷ 12 ∷ 13 ∷ 14 ∷ 15 ∷ 16 ∷ 17 ∷ 18 ∷ 19 ∷ 20 ∷ 21 ∷ 22 ∷ 23 ∷ 24 ∷ 25 ∷ 26 ∷ 27 ∷ 28 ∷ 29 ∷ 30 ∷ 31 ∷ 32 ∷ 33 ∷ 34 ∷ 35 ∷ 36 ∷ 37 ∷ 9 ∷ 38 ∷ 7 ∷ 39 ∷ 40 ∷ 5 ∷ 3 ∷ 1 ∷ 41 ∷ 42 ∷ 43 ∷ 44 ∷ 45 ∷ 46 ∷ 47 ∷ 48 ∷ 49 ∷ 50 ∷ 51 ∷ 52 ∷ 53 ∷ 54 ∷ 55 ∷ 56 ∷ 57 ∷ 58 ∷ 59 ∷ 60 ∷ 61 ∷ 62 ∷ 63 ∷ 64 ∷ 65 ∷ 66 ∷ 67 ∷ 68 ∷ 69 ∷ []) $ halfway t z good (zs .1 .1 .1 .0) (zs .1 .1 .1 .1 .0) e a d))))))))))))))))
 
     abbrev Toks : Item 𝓤
@@ -544,16 +560,16 @@ module _ {M : Type 1} (𝓤 : URA M) (H : Heap 𝓤) (A : Atoms 𝓤) (W : Given
           rewrite ! 38 (λ (k : ℕ). ‵ (fat fullShare part-ty l₉ 0 (sliceVal (l₈, 0) k))) (sym long) refl $
           -- the slot is taken apart, and so is what the others own, and the tokens
           move ! (59 ∷ []) $ fsplit ! $ move ! (42 ∷ 0 ∷ []) $ use2 W (‵ (arr-parts (shares R) K .part fullShare xs l₈ 0)) (to-row 𝓤 H A W K xs l₈) $ rewrite ! 0 (λ (k : ℕ). ‵ (arr-parts (shares R) k .part fullShare xs l₈ 0)) (sym long) refl $
-          move ! (1 ∷ []) $ fsplit ! $ drop ! $ fsplit ! $ drop ! $ fsplit ! $ move ! (1 ∷ []) $ fsplit ! $ move ! (1 ∷ []) $ fsplit ! $ move ! (1 ∷ []) $ fsplit ! $ move ! (63 ∷ []) $ split ! $ move ! (1 ∷ []) $ split ! $ move ! (1 ∷ []) $ split ! $ move ! (1 ∷ []) $ split ! $ 
+          move ! (1 ∷ []) $ fsplit ! $ drop ! $ fsplit ! $ drop ! $ fsplit ! $ move ! (1 ∷ []) $ fsplit ! $ move ! (1 ∷ []) $ fsplit ! $ move ! (1 ∷ []) $ fsplit ! $ move ! (63 ∷ []) $ split ! $ move ! (1 ∷ []) $ split ! $ move ! (1 ∷ []) $ split ! $ move ! (1 ∷ []) $ split ! $
           -- the elements are lent for a lifetime of the walk
-          lft-new ! tt (λ α. move ! (11 ∷ []) $ 
+          lft-new ! tt (λ α. move ! (11 ∷ []) $
           use1 W (later (some (λ (γ : GName). ‵ (ShrSlice (named 0) (α ∷ []) R .own (record { ptr = (l₈, 0); name = γ; now = xs }) (sliceVal (l₈, 0) n ∷ [])) ⊛ ‵ (flent (α ∷ []) (arr-parts (shares R) n .part fullShare xs l₈ 0)))))
           (lends-shr-slice 𝓤 H A W R (named 0) (α ∷ []) fullShare xs l₈ 0 (has-room n long)) $ await ! tt $ pick ! (λ γ₀. split ! $
           -- the first state
           move ! (10 ∷ 8 ∷ []) $ join ! $ move ! (10 ∷ 0 ∷ []) $ join ! $ move ! (47 ∷ 0 ∷ []) $ join ! $
           use0 W (raw (fact 𝓤 (Good (begin .left) Z))) (factI 𝓤 (Good (begin .left) Z) (emp 𝓤) (good-none, refl, gb)) $ join ! $
           use1 W (some (λ (y : St). Var l₀ l₁ l₂ l₃ l₄ l₅ l₆ l₇ l₈ l₉ l₁₀ l₁₁ l₁₂ l₁₃ l₁₄ l₁₅ l₁₆ l₁₇ l₁₈ l₁₉ l₂₀ l₂₁ l₂₂ l₂₃ l₂₄ l₂₅ l₂₆ l₂₇ l₂₈ α γ₀ (begin .left) y)) (exI 𝓤 (λ (y : St). mean 𝓤 H A (Var l₀ l₁ l₂ l₃ l₄ l₅ l₆ l₇ l₈ l₉ l₁₀ l₁₁ l₁₂ l₁₃ l₁₄ l₁₅ l₁₆ l₁₇ l₁₈ l₁₉ l₂₀ l₂₁ l₂₂ l₂₃ l₂₄ l₂₅ l₂₆ l₂₇ l₂₈ α γ₀ (begin .left) y)) Z) $
-          first ! $ blocks ! $ keep ! (0 ∷ 11 ∷ 13 ∷ 15 ∷ 17 ∷ 19 ∷ 21 ∷ 23 ∷ 25 ∷ 27 ∷ 29 ∷ 31 ∷ 33 ∷ 35 ∷ 37 ∷ 39 ∷ 41 ∷ 43 ∷ 45 ∷ 48 ∷ 51 ∷ 53 ∷ 55 ∷ 57 ∷ 59 ∷ 61 ∷ 63 ∷ 65 ∷ 1 ∷ 2 ∷ 3 ∷ 10 ∷ 8 ∷ 7 ∷ 6 ∷ 4 ∷ 66 ∷ 64 ∷ 62 ∷ 60 ∷ 58 ∷ 56 ∷ 54 ∷ 52 ∷ 50 ∷ 49 ∷ 47 ∷ 46 ∷ 44 ∷ 42 ∷ 40 ∷ 38 ∷ 36 ∷ 34 ∷ 32 ∷ 30 ∷ 28 ∷ 26 ∷ 24 ∷ 22 ∷ 20 ∷ 18 ∷ 16 ∷ 14 ∷ 12 ∷ []) $ 
+          first ! $ blocks ! $ keep ! (0 ∷ 11 ∷ 13 ∷ 15 ∷ 17 ∷ 19 ∷ 21 ∷ 23 ∷ 25 ∷ 27 ∷ 29 ∷ 31 ∷ 33 ∷ 35 ∷ 37 ∷ 39 ∷ 41 ∷ 43 ∷ 45 ∷ 48 ∷ 51 ∷ 53 ∷ 55 ∷ 57 ∷ 59 ∷ 61 ∷ 63 ∷ 65 ∷ 1 ∷ 2 ∷ 3 ∷ 10 ∷ 8 ∷ 7 ∷ 6 ∷ 4 ∷ 66 ∷ 64 ∷ 62 ∷ 60 ∷ 58 ∷ 56 ∷ 54 ∷ 52 ∷ 50 ∷ 49 ∷ 47 ∷ 46 ∷ 44 ∷ 42 ∷ 40 ∷ 38 ∷ 36 ∷ 34 ∷ 32 ∷ 30 ∷ 28 ∷ 26 ∷ 24 ∷ 22 ∷ 20 ∷ 18 ∷ 16 ∷ 14 ∷ 12 ∷ []) $
           loops ! 𝓣 _<_ (Nat·lt-wfRel .wf) (Inv l₀ l₁ l₂ l₃ l₄ l₅ l₆ l₇ l₈ l₉ l₁₀ l₁₁ l₁₂ l₁₃ l₁₄ l₁₅ l₁₆ l₁₇ l₁₈ l₁₉ l₂₀ l₂₁ l₂₂ l₂₃ l₂₄ l₂₅ l₂₆ l₂₇ l₂₈ α γ₀) (turn l₀ l₁ l₂ l₃ l₄ l₅ l₆ l₇ l₈ l₉ l₁₀ l₁₁ l₁₂ l₁₃ l₁₄ l₁₅ l₁₆ l₁₇ l₁₈ l₁₉ l₂₀ l₂₁ l₂₂ l₂₃ l₂₄ l₂₅ l₂₆ l₂₇ l₂₈ α γ₀) (begin .left)))
 
     walks-whole : Is (ShrSlice (named 0) κ₀ u8) schedule (v₃ ∷ []) → Is (MutSlice (named 1) κ₁ u64) old (v₄ ∷ []) → Is (MutSlice (named 2) κ₂ u64) new (v₅ ∷ []) → Is (MutSlice (named 3) κ₃ u32) marks (v₆ ∷ [])
@@ -575,9 +591,19 @@ module _ {M : Type 1} (𝓤 : URA M) (H : Heap 𝓤) (A : Atoms 𝓤) (W : Given
 
 walk-meets′ : {M : Type 1} (𝓤 : URA M) (H : Heap 𝓤) (A : Atoms 𝓤) (W : Given 𝓤 H A) (mem : Memory → SProp 𝓤) (run : Routine → Fun 𝓤) (𝓣 : Tables 𝓤 H) → Triple 𝓤 (𝓣 .C #rounds·pass) (Pass 𝓤 H A mem run) → Triple 𝓤 (𝓣 .C #rounds·next) (Nexts 𝓤 H A mem run)
     → Meets 𝓤 H A walk.signature (WpFn 𝓤 H (𝓣 .C) (𝓣 .Λ) code.function) (walk.spec 𝓤 H A mem run)
-walk-meets′ 𝓤 H A W mem run 𝓣 pass-known next-known = walk-meets 𝓤 H A walk.ended stayed W
-    (goes-dropped 𝓤 H A W 4 (arrayOf (plain (λ _. R)) K) yes (λ κs x f. refl), (goes-dropped 𝓤 H A W 4 (plain (λ _. S)) yes (λ κs x f. refl), (goes-dropped 𝓤 H A W 4 (plain (λ _. J)) yes (λ κs x f. refl), (goes-dropped 𝓤 H A W 4 (shrSliceOf (0 ∷ []) tt (plain (λ _. u8))) yes (λ κs x f. refl),
-    (goes-slice 𝓤 H A W 4 1 tt (plain (λ _. u64)), (goes-slice 𝓤 H A W 4 2 tt (plain (λ _. u64)), (goes-slice 𝓤 H A W 4 3 tt (plain (λ _. u32)), tt)))))))
+walk-meets′ 𝓤 H A W mem run 𝓣 pass-known next-known = walk-meets 𝓤 H A walk.ended stayed W (
+  goes-dropped 𝓤 H A W 4 (arrayOf (plain (λ _. R)) K) yes (λ κs x f. refl),
+  (
+    goes-dropped 𝓤 H A W 4 (plain (λ _. S)) yes (λ κs x f. refl),
+    (
+      goes-dropped 𝓤 H A W 4 (plain (λ _. J)) yes (λ κs x f. refl),
+      (
+        goes-dropped 𝓤 H A W 4 (shrSliceOf (0 ∷ []) tt (plain (λ _. u8))) yes (λ κs x f. refl),
+        (goes-slice 𝓤 H A W 4 1 tt (plain (λ _. u64)), (goes-slice 𝓤 H A W 4 2 tt (plain (λ _. u64)), (goes-slice 𝓤 H A W 4 3 tt (plain (λ _. u32)), tt))),
+      ),
+    ),
+  ),
+)
     (walk.clauses 𝓤 H A mem run) (WpFn 𝓤 H (𝓣 .C) (𝓣 .Λ) code.function) (WpFn-mono 𝓤 H (W .laws) 𝓣 code.function) (walk-walks 𝓤 H A W mem run 𝓣 pass-known next-known)
 
 pub walk-spec : {M : Type 1} → stated.statement M
