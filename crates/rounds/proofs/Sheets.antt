@@ -242,11 +242,10 @@ module _ (s : Sheet) (ok : Admitted s) (p q : ℕ) (l : List Item) (start : List
   start-few : (t : ℕ) → t ≤ s .m → getD start t 0 ≤ 4608
   start-few t h = omega (arith, laid .few t h, mul-le-mul-right (4 * (s .n * s .n)) h, few-places (s .n) (s .m) (ok .size .few-events) (ok .size .few-modes))
 
-  fine : length l ≡ 4608 → (t : ℕ) → t ≤ s .m → Fine l (s .n) (getD start t 0)
-  fine room t h =
+  fine : (t : ℕ) → t ≤ s .m → Fine l (s .n) (getD start t 0)
+  fine t h =
       record {
         few = start-few t h;
-        room = omega (arith, start-few t h);
         to-first = λ k x. good t h k x .to-event .0;
         to-last = λ k x. good t h k x .to-event .1;
         from-first = λ k x. good t h k x .from-event .0;
@@ -256,11 +255,11 @@ module _ (s : Sheet) (ok : Admitted s) (p q : ℕ) (l : List Item) (start : List
       }
 
   -- THEOREM: a sheet's list is what the rounds ask for
-  pub parts : length l ≡ 4608 → Parts l (s .n) start (s .schedule) (s .positions)
-  parts room =
+  pub parts : Parts l (s .n) start (s .schedule) (s .positions)
+  parts =
       record {
         rising = λ g h. omega (arith, starts (getD (s .schedule) g 0) (ok .modes g h));
-        fine = λ g h. fine room (getD (s .schedule) g 0 + 1) (omega (arith, ok .modes g h));
+        fine = λ g h. fine (getD (s .schedule) g 0 + 1) (omega (arith, ok .modes g h));
       }
 
   -- ---- what a mark names

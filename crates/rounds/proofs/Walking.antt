@@ -18,7 +18,7 @@ use Rattle.rounds.proofs.Folds.{pass-part, able, boards-same}
 use Rattle.rounds.proofs.Places.{AllIn, nodes-small, stands, walked-in, round-none, round-more}
 use Rattle.rounds.proofs.Tables.{after-long, Running, running-none, running-boards, running-more, ran-still, ran-all}
 
-module _ (l : List Item) (job : Job) (schedule : List ℕ) (posed : Posed job schedule) (parts : Parts l (job .n) (job .start) schedule (job .positions)) where
+module _ (l : List Item) (job : Job) (schedule : List ℕ) (posed : Posed job schedule) (parts : Parts l (job .n) (job .start) schedule (job .positions)) (room : length l ≡ 4608) where
   abbrev N : ℕ
   N = job .positions * job .n
 
@@ -98,7 +98,7 @@ module _ (l : List Item) (job : Job) (schedule : List ℕ) (posed : Posed job sc
     part-in = omega (arith, first-is, last-is, parts .rising (t .position) (w .here))
 
     pub part-below : t .last ≤ length l
-    part-below = omega (arith, last-is, parts .fine (t .position) (w .here) .room)
+    part-below = omega (arith, last-is, parts .fine (t .position) (w .here) .few, room)
 
     abbrev part : List Item
     part = take (t .last - t .first) (drop (t .first) l)

@@ -104,7 +104,6 @@ tableOf arcs (suc r) v = max (tableOf arcs r v) (mostOf arcs (tableOf arcs r) v)
 -- The records below `count` are windows between events 1 to n, with limits that are small.
 pub record Fine (l : List Item) (n count : ℕ) : Type 0 where
   pub few : count ≤ 4608
-  pub room : count ≤ length l
   pub to-first : (k : ℕ) → k < count → 1 ≤ itemAt l k .to
   pub to-last : (k : ℕ) → k < count → itemAt l k .to ≤ n
   pub from-first : (k : ℕ) → k < count → 1 ≤ itemAt l k .from

@@ -353,13 +353,13 @@ module _ {M : Type 1} (𝓤 : URA M) (H : Heap 𝓤) (A : Atoms 𝓤) (W : Given
 
     -- what is known of a state where t turns are left
     abbrev Good : ℕ → St → Type 0
-    Good t z = State xs job (schedule .now) posed parts (z .turn) (z .old) (z .new) (z .marks) × (z .turn .left ≡ t) × Is S (z .turn) (TT′.lowered (z .turn) ∷ [])
+    Good t z = State xs job (schedule .now) posed parts long (z .turn) (z .old) (z .new) (z .marks) × (z .turn .left ≡ t) × Is S (z .turn) (TT′.lowered (z .turn) ∷ [])
 
     abbrev Z : St
     Z = record { turn = begin; old = old .now; new = new .now; marks = marks .now }
 
-    good-none : State xs job (schedule .now) posed parts begin (old .now) (new .now) (marks .now)
-    good-none = state-none xs job (schedule .now) posed parts begin (old .now) (new .now) (marks .now) begin-is new-is zeros old-is marks-is
+    good-none : State xs job (schedule .now) posed parts long begin (old .now) (new .now) (marks .now)
+    good-none = state-none xs job (schedule .now) posed parts long begin (old .now) (new .now) (marks .now) begin-is new-is zeros old-is marks-is
 
     long-old : (t : ℕ) (z : St) → Good t z → length (z .old) ≡ length (old .now)
     long-old t z good = good .0 .old-long ∙ sym old-is
@@ -374,23 +374,23 @@ module _ {M : Type 1} (𝓤 : URA M) (H : Heap 𝓤) (A : Atoms 𝓤) (W : Given
     more t z good = some-left (z .turn .left) t (good .1)
 
     ordered : (t : ℕ) (z : St) → Good (suc t) z → z .turn .first ≤ z .turn .last
-    ordered t z good = part-in xs job (schedule .now) posed parts (z .turn) (z .old) (z .new) (z .marks) (good .0) (more t z good)
+    ordered t z good = part-in xs job (schedule .now) posed parts long (z .turn) (z .old) (z .new) (z .marks) (good .0) (more t z good)
 
     inside : (t : ℕ) (z : St) → Good (suc t) z → z .turn .last ≤ n
-    inside t z good = part-below xs job (schedule .now) posed parts (z .turn) (z .old) (z .new) (z .marks) (good .0) (more t z good)
+    inside t z good = part-below xs job (schedule .now) posed parts long (z .turn) (z .old) (z .new) (z .marks) (good .0) (more t z good)
 
     pass-ok : (t : ℕ) (z : St) → Good (suc t) z → (i : ℕ) → i < length (part z) → Able (getD (part z) i (item no-window)) (z .turn .at) (z .turn .first + i) (z .old) (z .new) (z .marks) (z .turn .round * 192)
-    pass-ok t z good = pass-able xs job (schedule .now) posed parts (z .turn) (z .old) (z .new) (z .marks) (good .0) (more t z good)
+    pass-ok t z good = pass-able xs job (schedule .now) posed parts long (z .turn) (z .old) (z .new) (z .marks) (good .0) (more t z good)
 
     next-ok : (t : ℕ) (z : St) → Good (suc t) z → (l : List ℕ) → length l ≡ length (z .new) → Ready z l
     next-ok t z good l e =
         let s = good .0 in
-        (posed, more t z good, next-here xs job (schedule .now) posed parts (z .turn) (z .old) (z .new) (z .marks) s (more t z good), next-round xs job (schedule .now) posed parts (z .turn) (z .old) (z .new) (z .marks) s (more t z good), e ∙ s .new-long ∙ sym (s .old-long), omega (arith, s .old-long))
+        (posed, more t z good, next-here xs job (schedule .now) posed parts long (z .turn) (z .old) (z .new) (z .marks) s (more t z good), next-round xs job (schedule .now) posed parts long (z .turn) (z .old) (z .new) (z .marks) s (more t z good), e ∙ s .new-long ∙ sym (s .old-long), omega (arith, s .old-long))
 
     good-next : (t : ℕ) (z : St) (good : Good (suc t) z) (n′ m′ : List ℕ) → board n′ m′ ≡ after (z .old) (z .turn .round * 192) (passed (z .turn .at) (z .turn .first) (part z)) (board (z .new) (z .marks)) → length n′ ≡ length (z .new) → length m′ ≡ length (z .marks)
-        → (r : Turn) (o′ : List ℕ) → Next (z .turn) job (schedule .now) (z .old) n′ r o′ → State xs job (schedule .now) posed parts r o′ n′ m′ × (r .left < z .turn .left)
+        → (r : Turn) (o′ : List ℕ) → Next (z .turn) job (schedule .now) (z .old) n′ r o′ → State xs job (schedule .now) posed parts long r o′ n′ m′ × (r .left < z .turn .left)
     good-next t z good n′ m′ e ln lm r o′ f =
-        state-more xs job (schedule .now) posed parts (z .turn) (z .old) (z .new) (z .marks) (good .0) (more t z good) n′ m′ e (ln ∙ good .0 .new-long) (lm ∙ good .0 .marks-long) r o′ f
+        state-more xs job (schedule .now) posed parts long (z .turn) (z .old) (z .new) (z .marks) (good .0) (more t z good) n′ m′ e (ln ∙ good .0 .new-long) (lm ∙ good .0 .marks-long) r o′ f
 
     module _ (l₀ l₁ l₂ l₃ l₄ l₅ l₆ l₇ l₈ l₉ l₁₀ l₁₁ l₁₂ l₁₃ l₁₄ l₁₅ l₁₆ l₁₇ l₁₈ l₁₉ l₂₀ l₂₁ l₂₂ l₂₃ l₂₄ l₂₅ l₂₆ l₂₇ l₂₈ : ℕ) (α : ℕ) (γ₀ : GName) where
       abbrev En : Env 𝓤 H
