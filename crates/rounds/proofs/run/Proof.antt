@@ -1,4 +1,5 @@
 -- The walk begins with table 0 in both tables.
+use mathlib.Core.Path.{refl}
 use Prim.Native.Nat.{ℕ, _*_, _≤_}
 use native.Mathlib.Omega.{arith}
 use native.Mathlib.Nat.{mul-le-mul}
@@ -33,7 +34,8 @@ slice-aggregate-walk-2 : tie.Need-slice-aggregate-walk-2
 slice-aggregate-walk-2 c = search needs
 
 walk-requires : tie.Need-walk-requires
-walk-requires c κs = search needs
+walk-requires c κs = let b = c .before .before .before in let z = b .before .before .before in let s = z .before .before .before in
+    (s .pre .0, s .pre .1, b .turn-at .ensures, refl, z .zeros .ensures, search needs, s .pre .2)
 
 same-length : tie.Need-same-length
 same-length c = search needs
