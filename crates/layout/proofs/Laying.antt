@@ -1,10 +1,10 @@
 -- The list while the windows are laid out: one place more of the tables puts one record or none. Then the modes' parts of it.
-use mathlib.Core.Path.{_≡_, refl, sym, ap, ap₂, _∙_}
+use mathlib.Core.Path.{_≡_, refl, sym, ap, _∙_}
 use mathlib.Core.Bool.{Bool, true, false}
 use mathlib.Core.List.{List, [], _∷_, _++_, append-assoc}
 use Prim.Native.Nat.{ℕ, zero, suc, _+_, _-_, _*_, _/_, _%_, _≤_, _<_}
 use native.Mathlib.Omega.{arith}
-use native.Mathlib.Nat.{mul-pos, mul-le-mul, mul-le-mul-right, div-lt-iff-lt-mul, mul-add-mod-self-right, mod-eq-of-lt}
+use native.Mathlib.Nat.{mul-pos, div-lt-iff-lt-mul, mul-add-mod-self-right, mod-eq-of-lt}
 use native.Mathlib.Decide.{decLt}
 use native.Mathlib.Numerals.{add-one}
 use lib.IntN.{ℤ, pos}
@@ -14,7 +14,7 @@ use Rattle.tables.specs.Sheets.{absent}
 use Rattle.windows.specs.Windows.{Window}
 use Rattle.windows.specs.Arcs.{unless}
 use Rattle.layout.specs.declared.Window.{Window as Item}
-use Rattle.layout.specs.Records.{item, windowOf, windowsIn, modeWindows, laidIn, nothing, itemAt, Laid, Starts, Modes}
+use Rattle.layout.specs.Records.{item, windowOf, windowsIn, modeWindows, laidIn, nothing, Laid, Starts, Modes}
 
 pub append-nil : {A : Type 0} (ws : List A) → ws ++ [] ≡ ws
 append-nil [] = refl

@@ -1,7 +1,7 @@
 -- The list of records: the windows present in each mode, "laid out once as a list of records".
 -- These definitions face the code: they say what stands where in the list. proofs/Windows ties them to the windows of a sheet.
 use mathlib.Core.Path.{_≡_}
-use mathlib.Core.List.{List, [], _∷_, _++_}
+use mathlib.Core.List.{List, [], _++_}
 use Prim.Native.Nat.{ℕ, zero, suc, _+_, _*_, _/_, _%_, _≤_, _<_}
 use lib.IntN.{ℤ, pos}
 use lib.ListN.{length, getD, drop}

@@ -2,9 +2,8 @@
 // This crate knows the list and one arc; it knows no table of times and no round.
 // It renders document 01's "Arcs" and "laid out once as a list of records".
 ghost use mathlib.Core.Path.{_≡_};
-ghost use mathlib.Core.List.{[], _∷_};
-ghost use Prim.Native.Nat.{ℕ, _+_, _-_, _*_, _/_, _%_, _≤_, _<_};
-ghost use lib.ListN.{length, getD};
+ghost use Prim.Native.Nat.{_+_, _-_, _*_, _/_, _%_, _≤_, _<_};
+ghost use lib.ListN.{length};
 ghost use Rattle.windows.specs.Arcs.{up, down};
 ghost use Rattle.layout.specs.Records.{item, windowsIn, windowOf, laidIn, Laid, Starts, Modes};
 ghost use Rattle.layout.specs.Edges.{edge, edgeOf};

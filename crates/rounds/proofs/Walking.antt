@@ -1,8 +1,8 @@
 -- The walk over all rounds, turn by turn: within a round the boards are the fold over the positions passed, and between the rounds the
 -- times are a table. A turn more keeps that, and when no turn is left the rounds are over.
-use mathlib.Core.Path.{_≡_, refl, sym, ap, subst, _∙_}
+use mathlib.Core.Path.{_≡_, refl, sym, ap, _∙_}
 use mathlib.Core.List.{List}
-use Prim.Native.Nat.{ℕ, suc, _+_, _-_, _*_, _≤_, _<_}
+use Prim.Native.Nat.{ℕ, _+_, _-_, _*_, _≤_, _<_}
 use native.Mathlib.Omega.{arith}
 use native.Mathlib.Nat.{mul-le-mul-right, mul-pos}
 use native.Mathlib.Decide.{decLt}
@@ -11,12 +11,11 @@ use lib.Seq.{length-take-le, getD-take, getD-drop}
 use Rattle.layout.specs.declared.Window.{Window as Item}
 use Rattle.layout.specs.Records.{item, nothing, itemAt}
 use Rattle.rounds.specs.declared.Job.{Job}
-use Rattle.rounds.specs.declared.Stand.{Stand}
 use Rattle.rounds.specs.declared.Turn.{Turn}
-use Rattle.rounds.specs.Rounds.{Named, named, standOf, Board, board, after, passed, walked, roundOf, turnOf, Able, Stands, Boards, Posed, Parts, Next, on, still, again, Ran}
+use Rattle.rounds.specs.Rounds.{Named, standOf, board, after, passed, walked, roundOf, turnOf, Able, Posed, Parts, Next, on, still, again, Ran}
 use Rattle.rounds.proofs.Folds.{pass-part, able, boards-same}
 use Rattle.rounds.proofs.Places.{AllIn, nodes-small, stands, walked-in, round-none, round-more}
-use Rattle.rounds.proofs.Tables.{after-long, Running, running-none, running-boards, running-more, ran-still, ran-all}
+use Rattle.rounds.proofs.Tables.{Running, running-none, running-boards, running-more, ran-still, ran-all}
 
 module _ (l : List Item) (job : Job) (schedule : List ℕ) (posed : Posed job schedule) (parts : Parts l (job .n) (job .start) schedule (job .positions)) (room : length l ≡ 4608) where
   abbrev N : ℕ

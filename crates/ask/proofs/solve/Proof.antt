@@ -1,9 +1,6 @@
 -- The list is laid out, the rounds run over it, and what is written is what the laws of acceptance and of circuits ask.
-use mathlib.Core.Path.{_≡_, _∙_}
-use mathlib.Core.List.{List}
-use Prim.Native.Nat.{ℕ, _+_, _<_}
+use mathlib.Core.Path.{_∙_}
 use native.Mathlib.Omega.{arith}
-use lib.ListN.{length, getD}
 use Rattle.tables.specs.Sheets.{Sheet, sheet}
 use Rattle.windows.proofs.Limits.{nodes-few}
 use Rattle.rounds.specs.Rounds.{Posed}

@@ -1,14 +1,13 @@
 -- The invariant: the arcs passed are written. The measure is the arcs left.
 use Prim.Native.Nat.{ℕ, _+_, _-_, _*_, _≤_, _<_}
 use mathlib.Core.Path.{_≡_, refl, ap, _∙_}
-use mathlib.Core.List.{List, [], _∷_}
+use mathlib.Core.List.{[], _∷_}
 use native.Mathlib.Omega.{arith}
 use native.Mathlib.Nat.{le-antisymm}
 use lib.ListN.{length, getD}
 use lib.Seq.{sets}
-use Rattle.layout.specs.declared.Window.{Window}
 use Rattle.layout.specs.Records.{itemAt}
-use Rattle.ask.specs.Ways.{positionOf, recordOf, Shown, quads, quad, part}
+use Rattle.ask.specs.Ways.{positionOf, Shown, quads, part}
 use Rattle.ask.proofs.Writing.{write-none, write-more}
 use borrow.Author.Needs.{needs}
 use Rattle.ask.proofs.write.Statement.{statement}

@@ -5,7 +5,6 @@ use mathlib.Core.Path.{_≡_, refl, sym, ap, ap₂, _∙_}
 use Prim.Native.Nat.{ℕ, zero, suc, _+_, _-_, _*_, _≤_}
 use Rattle.numbers.proofs.Signs.{passed}
 use Rattle.windows.specs.Arcs.{up, down}
-use Rattle.layout.specs.declared.Edge.{Edge}
 use Rattle.layout.specs.declared.Window.{Window as Item}
 use Rattle.layout.specs.Edges.{byKind, edge}
 use borrow.Author.Needs.{needs}

@@ -1,7 +1,6 @@
 -- The invariant: the windows at the places passed are laid out. The measure is what is left of the tables.
 use mathlib.Core.Path.{_≡_, refl, sym, ap, _∙_, subst}
 use mathlib.Core.Logic.{inl, inr}
-use mathlib.Core.List.{List}
 use Prim.Native.Nat.{ℕ, _+_, _-_, _*_, _%_, _≤_, _<_}
 use native.Mathlib.Omega.{arith}
 use native.Mathlib.Nat.{le-antisymm, mod-lt, mul-pos}
@@ -11,7 +10,6 @@ use lib.ListN.{length, getD, length-set}
 use Rattle.numbers.proofs.Signs.{passed}
 use Rattle.tables.proofs.Laws.{square, few-places}
 use Rattle.tables.specs.Sheets.{absent}
-use Rattle.layout.specs.declared.Window.{Window as Item}
 use Rattle.layout.specs.Records.{item, windowOf, laidIn, Laid}
 use Rattle.layout.proofs.Laying.{laid-few, laid-skip, laid-put}
 use borrow.Author.Needs.{needs}

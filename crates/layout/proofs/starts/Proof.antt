@@ -1,11 +1,11 @@
 -- The invariant: the modes before t are counted. The measure is the modes left.
-use mathlib.Core.Path.{_≡_, refl, ap, _∙_, subst}
-use Prim.Native.Nat.{ℕ, _+_, _-_, _*_, _≤_, _<_}
+use mathlib.Core.Path.{_≡_, _∙_, subst}
+use Prim.Native.Nat.{_+_, _-_, _*_, _≤_}
 use native.Mathlib.Omega.{arith}
 use native.Mathlib.Nat.{le-antisymm}
-use lib.ListN.{length, getD, length-set, length-drop, drop}
+use lib.ListN.{length, getD, length-set, length-drop}
 use Rattle.tables.proofs.Laws.{square}
-use Rattle.layout.specs.Records.{modeWindows, windowsIn, Starts}
+use Rattle.layout.specs.Records.{modeWindows, Starts}
 use Rattle.layout.proofs.Counting.{mode-few, starts-none, starts-more, start-few, Sizes, sizes, rest}
 use borrow.Author.Needs.{needs}
 use Rattle.layout.proofs.starts.Statement.{statement}

@@ -1,6 +1,6 @@
 -- The place k names kind, to and from.
 use mathlib.Core.Path.{_≡_, sym}
-use Prim.Native.Nat.{ℕ, _+_, _*_, _/_, _%_, _<_}
+use Prim.Native.Nat.{ℕ, _*_, _/_}
 use native.Mathlib.Omega.{arith}
 use native.Mathlib.Nat.{mod-lt}
 use lib.IntN.{ℤ}
@@ -8,7 +8,6 @@ use Rattle.numbers.proofs.Signs.{passed}
 use Rattle.tables.proofs.Laws.{square}
 use Rattle.windows.proofs.Numbers.{number-kind}
 use Rattle.layout.specs.declared.Window.{Window as Item}
-use Rattle.layout.specs.Records.{item, windowOf}
 use Rattle.layout.proofs.Laying.{kind-few}
 use borrow.Author.Needs.{needs}
 use Rattle.layout.proofs.window_at.Statement.{statement}

@@ -1,6 +1,6 @@
 -- Each return is a case of `Next`.
 use mathlib.Core.Path.{refl, subst, ap, _∙_}
-use Prim.Native.Nat.{ℕ, _*_, _+_, _-_}
+use Prim.Native.Nat.{ℕ, _*_}
 use native.Mathlib.Omega.{arith}
 use Rattle.rounds.specs.Rounds.{turnOf, Differs, on, still, again}
 use Rattle.rounds.proofs.Places.{nodes-small}

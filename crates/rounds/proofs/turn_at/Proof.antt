@@ -1,9 +1,7 @@
 -- The mode at the position has a part of the records.
 use mathlib.Core.Path.{_≡_}
-use Prim.Native.Nat.{ℕ, _+_, _<_}
+use Prim.Native.Nat.{ℕ}
 use native.Mathlib.Omega.{arith}
-use lib.ListN.{getD}
-use Rattle.rounds.specs.declared.Job.{Job}
 use Rattle.rounds.specs.declared.Stand.{Stand}
 use Rattle.rounds.specs.declared.Turn.{Turn}
 use borrow.Author.Needs.{needs}
