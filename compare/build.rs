@@ -1,11 +1,13 @@
-//! Links the program, and nothing else of this package, with the archive of proved
+//! Links the program, and nothing else of this package, with the archives of proved
 //! calls: the library's tests bring calls of their own.
 
 use std::path::Path;
 
 fn main() {
-    let package = env!("CARGO_MANIFEST_DIR");
-    let archive = Path::new(package).join("../target/staticlib/libprobe.a");
-    println!("cargo:rerun-if-changed={}", archive.display());
-    println!("cargo:rustc-link-arg-bins={}", archive.display());
+    let archives = Path::new(env!("CARGO_MANIFEST_DIR")).join("../target/staticlib");
+    for name in ["libprobe.a", "libhost.a"] {
+        let archive = archives.join(name);
+        println!("cargo:rerun-if-changed={}", archive.display());
+        println!("cargo:rustc-link-arg-bins={}", archive.display());
+    }
 }

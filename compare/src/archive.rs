@@ -1,14 +1,15 @@
-//! The proved calls, through C, out of the archive that `rt staticlib probe` builds.
+//! The proved calls, through C, out of the archives that `rt staticlib` builds of the
+//! crates probe and host.
 //!
 //! A slice passes as two arguments, a pointer and a count of elements. Nothing checks
-//! these declarations against the archive but the comparison itself: keep them beside
-//! `crates/probe/src/lib.rt`.
+//! these declarations against the archives but the comparison itself: keep them beside
+//! `crates/probe/src/lib.rt` and `include/tamulehk.h`.
 
 #![allow(unsafe_code)]
 
 use crate::calls::{Calls, Lent};
 
-/// The proved calls, as far as the archive has them.
+/// The proved calls, as far as the archives have them.
 pub const CALLS: Calls = Calls {
     read,
     write,
@@ -20,6 +21,11 @@ pub const CALLS: Calls = Calls {
     ends: Some(ends),
     #[cfg(not(any(feature = "ends", test)))]
     ends: None,
+    host,
+    #[cfg(any(feature = "report", test))]
+    report: Some(report),
+    #[cfg(not(any(feature = "report", test)))]
+    report: None,
 };
 
 extern "C" {
@@ -80,6 +86,18 @@ extern "C" {
         first_count: usize,
         second: *mut u8,
         second_count: usize,
+        values: *mut u64,
+        values_count: usize,
+    ) -> u32;
+
+    fn tamulehk_ask(sheet: *const u8, length: usize, p: u64, q: u64) -> u32;
+
+    #[cfg(any(feature = "report", test))]
+    fn probe_report(
+        file: *const u8,
+        file_count: usize,
+        out: *mut u8,
+        out_count: usize,
         values: *mut u64,
         values_count: usize,
     ) -> u32;
@@ -170,6 +188,28 @@ fn ends(lent: Lent<'_>, first: &mut [u8], second: &mut [u8], values: &mut [u64])
             first.len(),
             second.as_mut_ptr(),
             second.len(),
+            values.as_mut_ptr(),
+            values.len(),
+        )
+    }
+}
+
+fn host(file: &[u8], p: u64, q: u64) -> u32 {
+    // SAFETY: the pointer comes with the count of its own slice; the call keeps it not
+    // and writes nothing.
+    unsafe { tamulehk_ask(file.as_ptr(), file.len(), p, q) }
+}
+
+#[cfg(any(feature = "report", test))]
+fn report(file: &[u8], out: &mut [u8], values: &mut [u64]) -> u32 {
+    // SAFETY: every pointer comes with the count of its own slice; the call keeps none
+    // and writes only through the last two.
+    unsafe {
+        probe_report(
+            file.as_ptr(),
+            file.len(),
+            out.as_mut_ptr(),
+            out.len(),
             values.as_mut_ptr(),
             values.len(),
         )

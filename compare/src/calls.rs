@@ -38,6 +38,12 @@ pub type Ask = fn(Lent<'_>, u64, u64, &mut [u64], &mut [u8], &mut [u64]) -> u32;
 /// arc counts of low's circuit and of high's; with 101 the arc counts of both circuits.
 pub type Ends = fn(Lent<'_>, &mut [u8], &mut [u8], &mut [u64]) -> u32;
 
+/// The C call: a file, p and q.
+pub type Host = fn(&[u8], u64, u64) -> u32;
+
+/// The report: a file; text and values to be written. With 0 comes the text's length.
+pub type Report = fn(&[u8], &mut [u8], &mut [u64]) -> u32;
+
 /// The calls of one program; those it does not have yet are `None`.
 #[derive(Clone, Copy)]
 pub struct Calls {
@@ -49,6 +55,10 @@ pub struct Calls {
     pub ask: Option<Ask>,
     /// Ends.
     pub ends: Option<Ends>,
+    /// The C call.
+    pub host: Host,
+    /// The report.
+    pub report: Option<Report>,
 }
 
 /// The places of the list lent for values: more than any call returns, to show what is

@@ -15,7 +15,12 @@ pub fn taken(buffer: &Buffer<u8>, count: u64) -> Result<Vec<ArcName>, String> {
         .and_then(|end| buffer.contents().get(..end))
         .ok_or_else(|| format!("{count} arcs in {} places", buffer.places()))?;
     buffer.holds(bytes)?;
-    Ok(bytes.chunks_exact(4).map(name).collect())
+    Ok(names(bytes))
+}
+
+/// The arcs in these bytes.
+pub fn names(bytes: &[u8]) -> Vec<ArcName> {
+    bytes.chunks_exact(4).map(name).collect()
 }
 
 /// The bytes of a circuit, as calls write them.

@@ -9,7 +9,7 @@ use crate::files;
 use crate::kind::Kind;
 use crate::loans::Loan;
 use crate::tally::Tally;
-use crate::{ask, ends, reader, writer};
+use crate::{ask, ends, host, reader, report, writer};
 
 /// Compares on the input of a seed and an index, and tells the number agreed on. The
 /// random numbers are what buffers hold before.
@@ -28,7 +28,9 @@ pub struct Comparison {
 impl Comparison {
     /// The comparison of a kind, unless the calls are without it.
     pub fn new(kind: Kind, calls: &Calls) -> Option<Comparison> {
-        let Calls { read, write, .. } = *calls;
+        let Calls {
+            read, write, host, ..
+        } = *calls;
         let on_input: OnInput = match kind {
             Kind::Reader => Box::new(move |seed, index, random| {
                 reader::compare(read, write, &files::file(seed, index), random)
@@ -44,6 +46,15 @@ impl Comparison {
                 let ends = calls.ends?;
                 Box::new(move |seed, index, random| {
                     ends::compare(ends, &untimed(seed, index), random)
+                })
+            }
+            Kind::Host => {
+                Box::new(move |seed, index, _| host::compare(host, &files::question(seed, index)))
+            }
+            Kind::Report => {
+                let report = calls.report?;
+                Box::new(move |seed, index, random| {
+                    report::compare(report, &files::any(seed, index), random)
                 })
             }
         };
@@ -87,7 +98,7 @@ mod tests {
     /// The stub answers in the place of the archive, through its declarations.
     #[test]
     fn every_number_comes_up() {
-        let counts = [1000, 1000, 600, 600];
+        let counts = [1000, 1000, 600, 600, 1000, 1000];
         for (kind, count) in Kind::ALL.into_iter().zip(counts) {
             let comparison = Comparison::new(kind, &archive::CALLS).unwrap();
             let tally = comparison.run(1, count).unwrap();

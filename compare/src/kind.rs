@@ -13,11 +13,22 @@ pub enum Kind {
     Ask,
     /// Ends found.
     Ends,
+    /// Files and cycle times judged by the C call.
+    Host,
+    /// Reports written.
+    Report,
 }
 
 impl Kind {
     /// All kinds.
-    pub const ALL: [Kind; 4] = [Kind::Reader, Kind::Writer, Kind::Ask, Kind::Ends];
+    pub const ALL: [Kind; 6] = [
+        Kind::Reader,
+        Kind::Writer,
+        Kind::Ask,
+        Kind::Ends,
+        Kind::Host,
+        Kind::Report,
+    ];
 
     /// The kind of this name.
     pub fn from_name(name: &str) -> Option<Kind> {
@@ -31,6 +42,8 @@ impl Kind {
             Kind::Writer => "writer",
             Kind::Ask => "ask",
             Kind::Ends => "ends",
+            Kind::Host => "host",
+            Kind::Report => "report",
         }
     }
 
@@ -38,9 +51,10 @@ impl Kind {
     /// them checked.
     pub fn refusals(self) -> &'static [u32] {
         match self {
-            Kind::Reader => &[1, 2, 3, 4, 5, 6, 7, 8, 9],
+            Kind::Reader | Kind::Report => &[1, 2, 3, 4, 5, 6, 7, 8, 9],
             Kind::Writer | Kind::Ends => &[4, 5, 6, 9],
             Kind::Ask => &[4, 5, 6, 10, 9],
+            Kind::Host => &[1, 2, 3, 4, 5, 6, 7, 8, 10],
         }
     }
 
@@ -49,8 +63,8 @@ impl Kind {
         match self {
             Kind::Reader => &[(0, "read")],
             Kind::Writer => &[(0, "written")],
-            Kind::Ask => &[(0, "accepted"), (100, "refuted")],
-            Kind::Ends => &[(0, "found"), (101, "none")],
+            Kind::Ask | Kind::Host => &[(0, "accepted"), (100, "refuted")],
+            Kind::Ends | Kind::Report => &[(0, "found"), (101, "none")],
         }
     }
 }

@@ -8,9 +8,12 @@
 //! - [`calls`]: the calls under comparison; [`archive`]: the proved ones.
 //! - [`files`] and [`loans`]: the inputs, by seed and index.
 //! - [`buffer`]: what is lent to be written, and what is later found in it.
-//! - [`reader`], [`writer`], [`ask`], [`ends`]: the comparison of one input each.
+//! - [`reader`], [`writer`], [`ask`], [`ends`], [`host`], [`report`]: the comparison of
+//!   one input each.
 //! - [`circuit`]: circuits in buffers.
-//! - [`first_line`]: the ends of one sheet, to be held to what is published.
+//! - [`held`]: a sheet that the proved reader has read.
+//! - [`hand`]: 01's cases; [`stack`]: the stack that calls take; [`tried`]: cases tried
+//!   one by one.
 //! - [`difference`]: what is shown of two answers that differ.
 //! - [`kind`], [`comparison`] and [`tally`]: a run over many inputs, and its summary.
 
@@ -26,11 +29,16 @@ pub mod comparison;
 pub mod difference;
 pub mod ends;
 pub mod files;
-pub mod first_line;
+pub mod hand;
+pub mod held;
+pub mod host;
 pub mod kind;
 pub mod loans;
 pub mod reader;
+pub mod report;
+pub mod stack;
 #[cfg(test)]
 mod stub;
 pub mod tally;
+pub mod tried;
 pub mod writer;

@@ -6,20 +6,23 @@
 #![forbid(unsafe_code)]
 
 use std::env;
-use std::io::{self, Read};
+use std::io;
 use std::process::ExitCode;
 
 use compare::archive;
 use compare::comparison::Comparison;
-use compare::first_line;
+use compare::hand;
 use compare::kind::Kind;
+use compare::stack;
+use compare::tried::{self, Tried};
 
 const USAGE: &str = "\
-usage: compare KIND SEED COUNT, or compare first-line < SHEET
-       KIND   reader, writer, ask, ends, or all that there are
-       SEED   the number that settles the inputs
-       COUNT  how many inputs of each kind
-first-line prints the first line of a sheet's report, by the proved reader and Ends";
+usage: compare KIND SEED COUNT      with the second program, on many inputs
+       compare hand                 the sheets tried by hand
+       compare stack [KIND KIB]     on the largest sheets, in the stack stated or given
+KIND   reader, writer, ask, ends, host, report; with SEED and COUNT also all that there are
+SEED   the number that settles the inputs
+COUNT  how many inputs of each kind";
 
 /// What the arguments ask for.
 struct Order {
@@ -33,10 +36,12 @@ fn main() -> ExitCode {
         .skip(1)
         .map(|word| word.to_string_lossy().into_owned())
         .collect();
-    let done = if arguments == ["first-line"] {
-        first_line()
-    } else {
-        order(&arguments).map(|order| run(&order))
+    let words: Vec<&str> = arguments.iter().map(String::as_str).collect();
+    let done = match words[..] {
+        ["hand"] => Ok(show(&hand::run(&archive::CALLS))),
+        ["stack"] => tried(stack::run(&archive::CALLS)),
+        ["stack", kind, kib] => in_stack(kind, kib),
+        _ => order(&arguments).map(|order| run(&order)),
     };
     done.unwrap_or_else(|trouble| {
         eprintln!("compare: {trouble}\n{USAGE}");
@@ -44,16 +49,26 @@ fn main() -> ExitCode {
     })
 }
 
-/// Prints the first line of the report of the sheet on standard input.
-fn first_line() -> Result<ExitCode, String> {
-    let calls = archive::CALLS;
-    let ends = calls.ends.ok_or("this program is built without ends")?;
-    let mut file = Vec::new();
-    io::stdin()
-        .read_to_end(&mut file)
-        .map_err(|error| error.to_string())?;
-    println!("{}", first_line::of(calls.read, ends, &file));
-    Ok(ExitCode::SUCCESS)
+/// Runs the calls of one kind in so much stack.
+fn in_stack(kind: &str, kib: &str) -> Result<ExitCode, String> {
+    let kind = Kind::from_name(kind).ok_or_else(|| format!("no kind \"{kind}\""))?;
+    let kib = number("stack", kib)? as usize;
+    tried(stack::run_one(&archive::CALLS, kind, kib))
+}
+
+fn tried(tried: io::Result<Vec<Tried>>) -> Result<ExitCode, String> {
+    tried
+        .map(|tried| show(&tried))
+        .map_err(|error| error.to_string())
+}
+
+/// Prints what was tried, and how much of it holds.
+fn show(tried: &[Tried]) -> ExitCode {
+    for case in tried {
+        println!("{case}");
+    }
+    println!("{}", tried::tally(tried));
+    ExitCode::from(u8::from(tried.iter().any(|case| !case.holds)))
 }
 
 /// Reads the arguments, or says what is wrong with them.

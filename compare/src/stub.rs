@@ -10,10 +10,12 @@ use std::slice;
 use second::ask::Answer;
 use second::calls;
 use second::ends::{Ends, High};
+use second::report::Report;
 use second::sheet;
 
 use crate::calls::{Calls, Lent};
 use crate::circuit;
+use crate::report::PLACES;
 
 /// All calls, by the second program.
 pub const CALLS: Calls = Calls {
@@ -21,6 +23,8 @@ pub const CALLS: Calls = Calls {
     write,
     ask: Some(ask),
     ends: Some(ends),
+    host,
+    report: Some(report),
 };
 
 fn read(file: &[u8], tables: &mut [i32], schedule: &mut [u8], values: &mut [u64]) -> u32 {
@@ -110,6 +114,20 @@ pub fn ends(lent: Lent<'_>, first: &mut [u8], second: &mut [u8], values: &mut [u
         }
         Err(refusal) => refusal.number() as u32,
     }
+}
+
+pub fn host(file: &[u8], p: u64, q: u64) -> u32 {
+    calls::host(file, p, q) as u32
+}
+
+pub fn report(file: &[u8], out: &mut [u8], values: &mut [u64]) -> u32 {
+    if out.len() < PLACES {
+        return 9;
+    }
+    let text = Report::new(file).to_string();
+    put(out, text.as_bytes());
+    put(values, &[text.len() as u64]);
+    0
 }
 
 /// Lends the same to the second program.
@@ -237,6 +255,27 @@ unsafe extern "C" fn probe_ends(
         lent,
         slice::from_raw_parts_mut(first, first_count),
         slice::from_raw_parts_mut(second, second_count),
+        slice::from_raw_parts_mut(values, values_count),
+    )
+}
+
+#[no_mangle]
+unsafe extern "C" fn tamulehk_ask(sheet: *const u8, length: usize, p: u64, q: u64) -> u32 {
+    host(slice::from_raw_parts(sheet, length), p, q)
+}
+
+#[no_mangle]
+unsafe extern "C" fn probe_report(
+    file: *const u8,
+    file_count: usize,
+    out: *mut u8,
+    out_count: usize,
+    values: *mut u64,
+    values_count: usize,
+) -> u32 {
+    report(
+        slice::from_raw_parts(file, file_count),
+        slice::from_raw_parts_mut(out, out_count),
         slice::from_raw_parts_mut(values, values_count),
     )
 }

@@ -8,7 +8,7 @@ use crate::file;
 use crate::random::Random;
 use crate::sheet::Sheet;
 
-pub use self::loans::{loan, untimed_loan, Loan, Room};
+pub use self::loans::{cycle_time, loan, untimed_loan, Loan, Room};
 
 /// The file of an index: two sheets, then one that is likely no sheet, and so on.
 ///

@@ -8,3 +8,4 @@ pub mod Circuits
 pub mod Accepting
 pub mod Refusals
 pub mod Deciding
+pub mod Room

@@ -1,11 +1,9 @@
 -- What Ask answers to the search: it works, or a circuit is above zero. A refusal is out of the question.
 use mathlib.Core.Path.{_≡_, refl, sym, ap, _∙_, subst}
-use mathlib.Core.Bool.{true}
 use mathlib.Core.List.{List, _++_}
 use Prim.Native.Nat.{ℕ, zero, suc, _+_, _-_, _*_, _≤_, _<_}
 use native.Mathlib.Omega.{arith}
 use native.Mathlib.Nat.{mul-le-mul-right}
-use borrow.Author.Tests.{le-leb}
 use lib.ListN.{length, drop, length-append, length-drop}
 use Rattle.theory.specs.Arcs.{Works}
 use Rattle.tables.specs.Sheets.{Sheet, refusal}
@@ -16,11 +14,11 @@ use Rattle.windows.proofs.Endless.{meaning}
 use Rattle.windows.proofs.Limits.{nodes-few}
 use Rattle.windows.proofs.Numbers.{numbers-length}
 use Rattle.ask.specs.Ask as ask
-use Rattle.ask.specs.Ask.{askRefusal, timed, roomy, Shows}
+use Rattle.ask.specs.Ask.{askRefusal, Shows}
 use Rattle.ask.specs.Answers.{answer}
 use Rattle.ask.specs.declared.Asked.{Asked}
 use Rattle.ask.specs.declared.Asked.the-variants as asked
-use Rattle.ask.proofs.Refusals.{refused-none}
+use Rattle.ask.proofs.Room.{unrefused}
 use Rattle.ends.specs.Climbs.{Beats, LowHeld, HighHeld}
 use Rattle.ends.specs.Searches.{Ready, Asks, Stands}
 use Rattle.ends.specs.declared.search.Stand.{Stand}
@@ -30,14 +28,8 @@ module _ (s : Sheet) (at : Stand) (found₀ : List ℕ) (r : Ready s at found₀
   ok : Admitted s
   ok = accepted s (r .admitted)
 
-  in-time : timed (at .top) (at .bottom) ≡ true
-  in-time = rw (le-leb 1 (at .bottom) (r .some), le-leb (at .bottom) 1000 (r .few), le-leb (at .top) 1000000000 (r .small))
-
-  -- no refusal fits
-  pub unrefused : (plan : List ℕ) → length plan ≡ 192 → askRefusal s (at .top) (at .bottom) plan found₀ ≡ 0
-  unrefused plan long =
-      refused-none s (at .top) (at .bottom) plan found₀ (sym (r .admitted)) in-time
-      (rw (le-leb (nodes s) (length plan) (omega (arith, nodes-few s ok)), le-leb (4 * nodes s) (length found₀) (omega (arith, nodes-few s ok, r .room))))
+  refused-not : (plan : List ℕ) → length plan ≡ 192 → askRefusal s (at .top) (at .bottom) plan found₀ ≡ 0
+  refused-not plan long = unrefused s (r .admitted) plan found₀ long (r .room) (at .top) (at .bottom) (r .some) (r .few) (r .small)
 
   -- a refutation leaves its circuit at the front
   shows-beats : (plan₀ plan found : List ℕ) (count : ℕ) → Shows s (at .top) (at .bottom) plan₀ found₀ count plan found → Beats s (at .top) (at .bottom) found count
@@ -63,7 +55,7 @@ module _ (s : Sheet) (at : Stand) (found₀ : List ℕ) (r : Ready s at found₀
   asks (asked.Accepted rounds) plan₀ plan found long o =
       (meaning s (ok .size .some-positions) (at .top) (at .bottom) .0 (ask.planned s (at .top) (at .bottom) plan, o .1 .plan-is .solves), ap length (o .1 .circuit-same) ∙ r .room)
   asks (asked.Refuted count) plan₀ plan found long o = (shows-beats plan₀ plan found count (o .1), shows-room plan₀ plan found count (o .1))
-  asks (asked.Refused k) plan₀ plan found long o = o .1 (sym (o .0) ∙ unrefused plan₀ long)
+  asks (asked.Refused k) plan₀ plan found long o = o .1 (sym (o .0) ∙ refused-not plan₀ long)
 
 -- where the climb stands, Ask may be asked
 pub stands-ready : (s : Sheet) (at : Stand) (low found : List ℕ) → Stands s at low found → Ready s at found

@@ -3,11 +3,9 @@ use mathlib.Core.Path.{_≡_, refl, sym, ap, _∙_, subst}
 use mathlib.Core.List.{List, [], _∷_}
 use Prim.Native.Nat.{ℕ, _≤_}
 use native.Mathlib.Omega.{arith}
-use Rattle.sheet.specs.Answers.{Answer, answerRead, answerWritten}
+use Rattle.sheet.specs.Answers.{Answer, answerRead}
 use Rattle.sheet.specs.declared.Read.{Read}
 use Rattle.sheet.specs.declared.Read.the-variants as read
-use Rattle.sheet.specs.declared.Written.{Written}
-use Rattle.sheet.specs.declared.Written.the-variants as written
 use Rattle.ask.specs.declared.Asked.{Asked}
 use Rattle.ask.specs.declared.Asked.the-variants as asked
 use Rattle.ends.specs.declared.High.{High}
@@ -34,10 +32,9 @@ read-given r n m p a b c e x y z =
 single : (a n : ℕ) → a ≡ n → _≡_ {A = List ℕ} (a ∷ []) (n ∷ [])
 single a n x = cc
 
-pub written-given : (w : Written) (n a : ℕ) → w ≡ written.Done n → a ≡ n → Given (one a) (answerWritten w)
-written-given w n a e x =
-    subst (λ (s : Written). Given (one a) (answerWritten s)) (sym e)
-    (record { numbered = refl; valued = single a n x; few = omega arith; room = refl })
+-- 0 with one value, as of a sheet written and of a report
+pub one-given : (w : Answer) (n a : ℕ) → w ≡ record { number = 0; values = n ∷ [] } → a ≡ n → Given (one a) w
+one-given w n a e x = subst (Given (one a)) (sym e) (record { numbered = refl; valued = single a n x; few = omega arith; room = refl })
 
 pub accepted-given : (r : Asked) (n : ℕ) → r ≡ asked.Accepted n → Given (one n) (answerAsked r)
 accepted-given r n e = subst (λ (s : Asked). Given (one n) (answerAsked s)) (sym e) (record { numbered = refl; valued = refl; few = omega arith; room = refl })

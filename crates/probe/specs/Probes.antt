@@ -17,6 +17,10 @@ use Rattle.ends.specs.declared.High.{High}
 use Rattle.ends.specs.declared.High.the-variants as high
 use Rattle.ends.specs.declared.Ended.{Ended}
 use Rattle.ends.specs.declared.Ended.the-variants as ended
+use Rattle.report.specs.Report as report
+use Rattle.report.specs.Told as told-answers
+use Rattle.report.specs.declared.Told.{Told}
+use Rattle.report.specs.declared.Told.the-variants as told
 use Rattle.sheet.specs.File.{sheetIn}
 use Rattle.sheet.specs.Answers.{Answer, reading, readOf, writing, writeOf}
 
@@ -74,3 +78,15 @@ pub record EndsProbed (s : Sheet) (first₀ second₀ values₀ : List ℕ) (num
   pub outcome : ends.Outcome s first₀ second₀ (ended-answers.answer answer) first second
   pub numbered : number ≡ answerEnded answer .number
   pub valued : values ≡ sets values₀ 0 (answerEnded answer .values)
+
+-- the report's answer in numbers: the text's length
+abbrev pub answerTold : Told → Answer
+answerTold (told.Written length) = record { number = 0; values = length ∷ [] }
+answerTold (told.Refused number) = record { number = number; values = [] }
+
+-- the report's outcome, for one answer
+pub record ReportProbed (file : List ℕ) (out₀ values₀ : List ℕ) (number : ℕ) (out values : List ℕ) : Type 0 where
+  pub answer : Told
+  pub outcome : report.Outcome file out₀ (told-answers.answer answer) out
+  pub numbered : number ≡ answerTold answer .number
+  pub valued : values ≡ sets values₀ 0 (answerTold answer .values)

@@ -3,6 +3,7 @@
 use ask::Asked;
 use ends::Ended;
 use ends::High;
+use report::Told;
 use sheet::Read;
 use sheet::Written;
 ghost use mathlib.Core.Path.{_≡_};
@@ -11,7 +12,7 @@ ghost use lib.ListN.{set, length};
 ghost use lib.Seq.{sets};
 ghost use Rattle.tables.specs.Sheets.{sheet};
 ghost use Rattle.sheet.specs.Answers.{answerRead, answerWritten};
-ghost use Rattle.probe.specs.Probes.{Given, given, answerAsked, answerFound, answerEnded, ReadProbed, WriteProbed, AskProbed, EndsProbed};
+ghost use Rattle.probe.specs.Probes.{Given, given, answerAsked, answerFound, answerEnded, ReadProbed, WriteProbed, AskProbed, EndsProbed, answerTold, ReportProbed};
 
 // An answer in numbers: its number, and how many values of the list belong to it.
 pub struct Answered {
@@ -138,6 +139,23 @@ fn of_ended(ended: Ended) -> Answered
     }
 }
 
+fn of_told(told: Told) -> Answered
+    ensures { λ r. ⌜ Given r (answerTold told) ⌝ }
+{
+    match told {
+        Told::Written { length } => Answered {
+            number: 0,
+            count: 1,
+            values: [wide(length), 0, 0, 0, 0, 0, 0, 0],
+        },
+        Told::Refused { number } => Answered {
+            number: answer(number),
+            count: 0,
+            values: [0; 8],
+        },
+    }
+}
+
 // Hands an answer over: the values into the list, as far as it reaches, and the number.
 fn give(values: &mut [u64], a: Answered) -> u32
     requires { ⌜ (a .count ≤ 8) × (length (a .values) ≡ 8) ⌝ }
@@ -220,5 +238,14 @@ pub extern "C" fn probe_ends(
     ensures { λ r. ⌜ EndsProbed (sheet n m positions (now (tables .entry)) (now (schedule .entry))) (now (first .entry)) (now (second .entry)) (now (values .entry)) r (now (first .exit)) (now (second .exit)) (now (values .exit)) ⌝ }
 {
     let a = of_ended(ends::ends(n, m, positions, tables, schedule, first, second));
+    give(values, a)
+}
+
+// The report: 0 with the text's length, or the number of the refusal.
+#[no_mangle]
+pub extern "C" fn probe_report(file: &[u8], out: &mut [u8], values: &mut [u64]) -> u32
+    ensures { λ r. ⌜ ReportProbed (now (file .entry)) (now (out .entry)) (now (values .entry)) r (now (out .exit)) (now (values .exit)) ⌝ }
+{
+    let a = of_told(report::report(file, out));
     give(values, a)
 }

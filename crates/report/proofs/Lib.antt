@@ -1,1 +1,4 @@
+pub mod Telling
+pub mod Short
+pub mod Whole
 pub mod Unique

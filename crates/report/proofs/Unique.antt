@@ -19,11 +19,12 @@ use Rattle.sheet.specs.File as file
 use Rattle.sheet.proofs.Admitted.{read-admitted}
 use Rattle.sheet.proofs.Front.{front}
 use Rattle.windows.specs.Inequalities.{Runs}
-use Rattle.windows.specs.Arcs.{node, nodes, arcs, oneTo}
+use Rattle.windows.specs.Arcs.{node, nodes, arcs, oneTo, each}
+use Rattle.windows.proofs.Listed.{each-more}
 use Rattle.windows.proofs.Laying.{node-inside}
 use Rattle.ask.specs.Ask.{Earliest}
 use Rattle.ask.proofs.Unique.{plan-table}
-use Rattle.report.specs.Lines.{plan-word, line, joined, numbersLine, timesAt, planLines}
+use Rattle.lines.specs.Lines.{plan-word, line, numbersLine, timesAt, planLines}
 use Rattle.report.specs.Report.{TellsEnds, TellsNone, Tells, judged, Reports, room, Answer, number, Outcome}
 use Rattle.report.specs.Report as report
 
@@ -34,13 +35,17 @@ map-same (suc n) f g h =
     map-append f (oneTo n) (suc n ∷ []) ∙ ap₂ (λ (xs : List _) (y : _). xs ++ y ∷ []) (map-same n f g (λ i a b. h i a (omega arith))) (h (suc n) (omega arith) (omega arith))
     ∙ sym (map-append g (oneTo n) (suc n ∷ []))
 
+each-same : {B : Type 0} (n : ℕ) (f g : ℕ → List B) → ((i : ℕ) → 1 ≤ i → i ≤ n → f i ≡ g i) → each (oneTo n) f ≡ each (oneTo n) g
+each-same zero f g h = refl
+each-same (suc n) f g h = each-more n f ∙ ap₂ (λ (xs ys : List _). xs ++ ys) (each-same n f g (λ i a b. h i a (omega arith))) (h (suc n) (omega arith) (omega arith)) ∙ sym (each-more n g)
+
 module _ (s : Sheet) (z : Sizes s) where
   -- the plan's lines are determined by the cycle time
   plan-lines-same : (p q r r′ : ℕ) (plan plan′ : List ℕ) → Earliest s p q plan → Earliest s p q plan′ → Rounds (arcs s) p q (nodes s) r → Rounds (arcs s) p q (nodes s) r′
       → planLines s q r plan ≡ planLines s q r′ plan′
   plan-lines-same p q r r′ plan plan′ e e′ k k′ =
       ap (λ (u : ℕ). planLines s q u plan) same
-      ∙ ap (λ (t : List (List ℕ)). line plan-word (decimal q ∷ decimal r′ ∷ []) ++ joined t) (map-same (s .positions) (λ h. numbersLine (timesAt s plan h)) (λ h. numbersLine (timesAt s plan′ h)) (λ h a b. ap numbersLine (map-same (s .n) (λ i. getD plan (node s h i) 0) (λ i. getD plan′ (node s h i) 0) (λ i c d. times (node s h i) (node-inside s (z .some-positions) h i (c, d))))))
+      ∙ ap (λ (t : List ℕ). line plan-word (decimal q ∷ decimal r′ ∷ []) ++ t) (each-same (s .positions) (λ h. numbersLine (timesAt s plan h)) (λ h. numbersLine (timesAt s plan′ h)) (λ h a b. ap numbersLine (map-same (s .n) (λ i. getD plan (node s h i) 0) (λ i. getD plan′ (node s h i) 0) (λ i c d. times (node s h i) (node-inside s (z .some-positions) h i (c, d))))))
     where
       same : r ≡ r′
       same = rounds-same (arcs s) p q (nodes s) r r′ k k′

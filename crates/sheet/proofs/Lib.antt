@@ -22,3 +22,4 @@ pub mod Trips
 pub mod Longest
 pub mod Front
 pub mod Samples
+pub mod Held

@@ -1,2 +1,3 @@
 pub mod Stores
 pub mod Values
+pub mod Puts

@@ -9,7 +9,7 @@ use borrow.Author.Tests.{lt-ltb, le-ltb}
 use lib.Dec.{ltb}
 use lib.ListN.{getD, length, set, take, length-append}
 use lib.Seq.{sets, take-suc, take-all, length-take-le}
-use Rattle.text.specs.Text.{spelled}
+use Rattle.text.specs.Text.{spelled, Puts}
 
 -- the second run stands where the first ends
 pub sets-append : (l : List ℕ) (at : ℕ) (xs ys : List ℕ) → sets (sets l at xs) (at + length xs) ys ≡ sets l at (xs ++ ys)
@@ -54,23 +54,25 @@ module _ (left v : ℕ) (some : 0 < left) where
 
 -- what `spell` ensures
 abbrev pub Spells : ℕ → ℕ → ℕ → ℕ → List ℕ → List ℕ → Type 0
-Spells at left v r out after = (r ≡ at + length (spelled left v)) × (r ≤ at + left) × (after ≡ sets out at (spelled left v))
+Spells at left v r out after = (r ≤ at + left) × Puts out at (spelled left v) r after
 
 pub spells-none : (at left v : ℕ) (out : List ℕ) → left ≡ 0 → Spells at left v at out out
 unfolding spelled
-spells-none at left v out e = rw e (omega arith, omega arith, refl)
+spells-none at left v out e = rw e (omega arith, record { next-is = omega arith; out-is = refl })
 
-pub spells-last : (at left v d r : ℕ) (out after : List ℕ) → (left ≡ 0 → ⊥) → v < 10 → d ≡ 48 + v → r ≡ at + 1 → after ≡ set out at d → Spells at left v r out after
-spells-last at left v d r out after some h e n f =
-    rw (spelled-one left v (omega arith) h) (omega arith, omega arith, f ∙ ap (set out at) e)
+pub spells-last : (at left v d r : ℕ) (out after : List ℕ) → (left ≡ 0 → ⊥) → v < 10 → d ≡ 48 + v → Puts out at (d ∷ []) r after → Spells at left v r out after
+spells-last at left v d r out after some h e p =
+    rw (spelled-one left v (omega arith) h) (omega (arith, p .next-is), record { next-is = omega (arith, p .next-is); out-is = p .out-is ∙ ap (set out at) e })
 
-pub spells-rest : (at left v next d r : ℕ) (out mid after : List ℕ) → (left ≡ 0 → ⊥) → 10 ≤ v → Spells at (left - 1) (v / 10) next out mid → d ≡ 48 + v % 10 → r ≡ next + 1 → after ≡ set mid next d
+pub spells-rest : (at left v next d r : ℕ) (out mid after : List ℕ) → (left ≡ 0 → ⊥) → 10 ≤ v → Spells at (left - 1) (v / 10) next out mid → d ≡ 48 + v % 10 → Puts mid next (d ∷ []) r after
     → Spells at left v r out after
-spells-rest at left v next d r out mid after some h s e n f =
+spells-rest at left v next d r out mid after some h s e p =
     rw (spelled-more left v (omega arith) h) (
-      omega (arith, length-more (spelled (left - 1) (v / 10)) (48 + v % 10)),
-      omega arith,
-      sets-more out mid after at next (48 + v % 10) (spelled (left - 1) (v / 10)) (s .2) (s .0) (f ∙ ap (set mid next) e),
+      omega (arith, p .next-is, s .0),
+      record {
+        next-is = omega (arith, p .next-is, s .1 .next-is, length-more (spelled (left - 1) (v / 10)) (48 + v % 10));
+        out-is = sets-more out mid after at next (48 + v % 10) (spelled (left - 1) (v / 10)) (s .1 .out-is) (s .1 .next-is) (p .out-is ∙ ap (set mid next) e);
+      },
     )
 
 -- ---- a word, byte by byte

@@ -4,16 +4,15 @@
 ghost use mathlib.Core.Path.{_≡_};
 ghost use mathlib.Core.List.{[], _∷_};
 ghost use Prim.Native.Nat.{_+_, _≤_, _<_};
-ghost use lib.ListN.{length, set};
-ghost use lib.Seq.{sets};
-ghost use Rattle.text.specs.Text.{spelled, decimal};
+ghost use lib.ListN.{length};
+ghost use Rattle.text.specs.Text.{spelled, decimal, Puts};
 
 const DIGITS: usize = 20;
 
 // Puts a byte at a place, if the buffer reaches that far, and gives the next place.
 pub fn put_byte(out: &mut [u8], at: usize, byte: u8) -> usize
     requires { ⌜ at < 1000000 ⌝ }
-    ensures { λ r. ⌜ (r ≡ at + 1) × (now (out .exit) ≡ set (now (out .entry)) at byte) ⌝ }
+    ensures { λ r. ⌜ Puts (now (out .entry)) at (byte ∷ []) r (now (out .exit)) ⌝ }
 {
     if at < out.len() {
         out[at] = byte;
@@ -33,7 +32,7 @@ fn digit(value: u64) -> u8
 // Spells a number in at most `left` digits from a place on, as far as there is room, and gives the place after it.
 fn spell(out: &mut [u8], at: usize, value: u64, left: usize) -> usize
     requires { ⌜ (left ≤ 20) × (at + left < 1000000) ⌝ }
-    ensures { λ r. ⌜ (r ≡ at + length (spelled left value)) × (r ≤ at + left) × (now (out .exit) ≡ sets (now (out .entry)) at (spelled left value)) ⌝ }
+    ensures { λ r. ⌜ (r ≤ at + left) × Puts (now (out .entry)) at (spelled left value) r (now (out .exit)) ⌝ }
 {
     if left == 0 {
         return at;
@@ -48,7 +47,7 @@ fn spell(out: &mut [u8], at: usize, value: u64, left: usize) -> usize
 // Spells a number from a place on, as far as there is room, and gives the place after it.
 pub fn put_number(out: &mut [u8], at: usize, value: u64) -> usize
     requires { ⌜ at < 900000 ⌝ }
-    ensures { λ r. ⌜ (r ≡ at + length (decimal value)) × (r ≤ at + 20) × (now (out .exit) ≡ sets (now (out .entry)) at (decimal value)) ⌝ }
+    ensures { λ r. ⌜ (r ≤ at + 20) × Puts (now (out .entry)) at (decimal value) r (now (out .exit)) ⌝ }
 {
     spell(out, at, value, DIGITS)
 }
@@ -56,7 +55,7 @@ pub fn put_number(out: &mut [u8], at: usize, value: u64) -> usize
 // Puts a word from a place on, as far as there is room, and gives the place after it.
 pub fn put_word(out: &mut [u8], at: usize, word: &[u8]) -> usize
     requires { ⌜ (at < 900000) × (length (now word) ≤ 100) ⌝ }
-    ensures { λ r. ⌜ (r ≡ at + length (now (word .entry))) × (now (out .exit) ≡ sets (now (out .entry)) at (now (word .entry))) ⌝ }
+    ensures { λ r. ⌜ Puts (now (out .entry)) at (now (word .entry)) r (now (out .exit)) ⌝ }
 {
     let mut k: usize = 0;
     while k < word.len() {

@@ -103,7 +103,7 @@ fn lend(seed: u64, index: u64, time: impl Fn(&mut Random, &Sheet) -> (u64, u64))
 }
 
 /// A cycle time at an end or next to it, where the answer turns, or any.
-fn cycle_time(random: &mut Random, sheet: &Sheet) -> (u64, u64) {
+pub fn cycle_time(random: &mut Random, sheet: &Sheet) -> (u64, u64) {
     let any = Fraction {
         top: random.between(0, 60),
         bottom: random.between(1, 12),

@@ -1,5 +1,7 @@
 -- `probe::of_written` meets its contract: the length is the answer's value.
-use Rattle.probe.proofs.Answers.{written-given}
+use mathlib.Core.Path.{ap}
+use Rattle.sheet.specs.Answers.{answerWritten}
+use Rattle.probe.proofs.Answers.{one-given}
 use borrow.Author.Needs.{needs}
 use Rattle.probe.proofs.of_written.Statement.{statement}
 use Rattle.probe.proofs.of_written.Tie as tie
@@ -26,7 +28,7 @@ answer-requires c κs = search needs
 
 -- src/lib.rt:58:1
 returns : tie.Need-returns
-returns c = written-given _ _ _ (c .before .before .written .given .1) (c .wide .ensures)
+returns c = one-given _ _ _ (ap answerWritten (c .before .before .written .given .1)) (c .wide .ensures)
 
 -- src/lib.rt:58:1
 returns-2 : tie.Need-returns-2

@@ -45,7 +45,7 @@ spell-returns-2 : (t : ℕ) → spell-lts.Need-returns-2 (digit-reads.Asked, dig
 spell-returns-2 t c =
     let start = c .before .before .before .before .before .before .before .before in
     let a = start .args in
-    spells-last (a .at) (a .left) (a .value) _ _ (a .out .now) _ (c .before .before .before .before .before .before .if1 .left) (c .before .before .before .before .before .if2 .taken) (c .before .before .before .digit .ensures) (c .before .before .put-byte .ensures .0) (c .before .before .put-byte .ensures .1)
+    spells-last (a .at) (a .left) (a .value) _ _ (a .out .now) _ (c .before .before .before .before .before .before .if1 .left) (c .before .before .before .before .before .if2 .taken) (c .before .before .before .digit .ensures) (c .before .before .put-byte .ensures)
 
 -- src/lib.rt:43:43
 spell-sub-spell : (t : ℕ) → spell-lts.Need-sub-spell (digit-reads.Asked, digit-reads.Learnt, put-byte-reads.Asked, put-byte-reads.Learnt, spell-below t, spell.Post) (spell-at t) spell.Post
@@ -66,7 +66,7 @@ spell-digit-requires-2 t c κs = mod-lt _ (omega arith)
 spell-put-byte-requires-2 : (t : ℕ) → spell-lts.Need-put-byte-requires-2 (digit-reads.Asked, digit-reads.Learnt, put-byte-reads.Asked, put-byte-reads.Learnt, spell-below t, spell.Post) (spell-at t) spell.Post
 spell-put-byte-requires-2 t c κs =
     let some = c .before .before .before .before .before .before .before .if1 .left in
-    omega (arith, c .before .before .before .before .spell .ensures .1, c .before .before .before .before .before .before .before .before .before .pre .1)
+    omega (arith, c .before .before .before .before .spell .ensures .0, c .before .before .before .before .before .before .before .before .before .pre .1)
 
 -- src/lib.rt:33:1
 spell-same-length-2 : (t : ℕ) → spell-lts.Need-same-length-2 (digit-reads.Asked, digit-reads.Learnt, put-byte-reads.Asked, put-byte-reads.Learnt, spell-below t, spell.Post) (spell-at t) spell.Post
@@ -76,7 +76,7 @@ spell-same-length-2 t c = c .before .before .put-byte2 .kept .0 ∙ c .before .b
 spell-returns-3 : (t : ℕ) → spell-lts.Need-returns-3 (digit-reads.Asked, digit-reads.Learnt, put-byte-reads.Asked, put-byte-reads.Learnt, spell-below t, spell.Post) (spell-at t) spell.Post
 spell-returns-3 t c =
     let a = c .before .before .before .before .before .before .before .before .before .before .before .before .args in
-    spells-rest (a .at) (a .left) (a .value) _ _ _ (a .out .now) _ _ (c .before .before .before .before .before .before .before .before .before .before .if1 .left) (c .before .before .before .before .before .before .before .before .before .if2 .left) (c .before .before .before .before .before .before .before .spell .ensures) (c .before .before .before .digit2 .ensures) (c .before .before .put-byte2 .ensures .0) (c .before .before .put-byte2 .ensures .1)
+    spells-rest (a .at) (a .left) (a .value) _ _ _ (a .out .now) _ _ (c .before .before .before .before .before .before .before .before .before .before .if1 .left) (c .before .before .before .before .before .before .before .before .before .if2 .left) (c .before .before .before .before .before .before .before .spell .ensures) (c .before .before .before .digit2 .ensures) (c .before .before .put-byte2 .ensures)
 
 pub +spell-spec : {M : Type 1} → statement M
 +spell-spec = close μ-spell λ t. spell-lts.spec (digit-reads.Asked, digit-reads.Learnt, put-byte-reads.Asked, put-byte-reads.Learnt, spell-below t, spell.Post)

@@ -21,7 +21,7 @@ same-length c = search needs
 
 -- src/lib.rt:20:9
 returns : tie.Need-returns
-returns c = search needs
+returns c = record { next-is = refl; out-is = refl }
 
 -- src/lib.rt:22:5
 add-result-2 : tie.Need-add-result-2
@@ -29,7 +29,7 @@ add-result-2 c = search needs
 
 -- src/lib.rt:14:1
 returns-2 : tie.Need-returns-2
-returns-2 c = (refl, sym (set-out _ _ _ (c .if1 .left)))
+returns-2 c = record { next-is = refl; out-is = sym (set-out _ _ _ (c .if1 .left)) }
 
 pub put-byte-spec : {M : Type 1} → statement M
 put-byte-spec =

@@ -40,7 +40,7 @@ loop-again c =
     let a = c .before .before .before .before .before .before .before .before .before .args in
     let h = c .before .before .before .before .before .loop-test .taken in (
       omega (arith, h),
-      word-more (a .out .now) _ _ (a .word .now) (a .at) (c .before .before .before .before .before .before .loop .k) h (c .before .before .before .before .before .before .loop .inv .1) (c .before .before .put-byte .ensures .1),
+      word-more (a .out .now) _ _ (a .word .now) (a .at) (c .before .before .before .before .before .before .loop .k) h (c .before .before .before .before .before .before .loop .inv .1) (c .before .before .put-byte .ensures .out-is),
     )
 
 add-result : tie.Need-add-result Inv-loop μ-loop
@@ -50,7 +50,8 @@ same-length : tie.Need-same-length Inv-loop μ-loop
 same-length c = let a = c .before .before .before .before .args in ap length (c .before .loop .inv .1) ∙ length-sets (a .out .now) (a .at) (take (c .before .loop .k) (a .word .now))
 
 returns : tie.Need-returns Inv-loop μ-loop
-returns c = let a = c .before .before .before .before .args in (refl, word-all (a .out .now) _ (a .word .now) (a .at) (c .before .loop .k) (c .before .loop .inv .0) (c .loop-test .left) (c .before .loop .inv .1))
+returns c = let a = c .before .before .before .before .args in
+    record { next-is = refl; out-is = word-all (a .out .now) _ (a .word .now) (a .at) (c .before .loop .k) (c .before .loop .inv .0) (c .loop-test .left) (c .before .loop .inv .1) }
 
 pub put-word-spec : {M : Type 1} → statement M
 put-word-spec =

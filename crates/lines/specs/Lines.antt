@@ -7,7 +7,7 @@ use Rattle.text.specs.Text.{decimal, space, feed}
 use Rattle.theory.specs.Ends.{High, open-end, up-to}
 use Rattle.tables.specs.Sheets.{Sheet}
 use Rattle.windows.specs.Windows.{number}
-use Rattle.windows.specs.Arcs.{node, oneTo}
+use Rattle.windows.specs.Arcs.{node, oneTo, each}
 use Rattle.windows.specs.Circuits.{Step}
 
 -- "ends"
@@ -55,18 +55,13 @@ following (word ∷ rest) = space ∷ word ++ following rest
 abbrev pub line : List ℕ → List (List ℕ) → List ℕ
 line first rest = first ++ following rest
 
--- one after the other
-abbrev pub joined : List (List ℕ) → List ℕ
-joined [] = []
-joined (a ∷ rest) = a ++ joined rest
-
 -- a fraction, as 5/1
 abbrev pub fraction : ℕ → ℕ → List ℕ
 fraction top bottom = decimal top ++ 47 ∷ decimal bottom
 
-abbrev pub highest : High → List ℕ
-highest open-end = open-word
-highest (up-to top bottom) = fraction top bottom
+abbrev pub highSpelled : High → List ℕ
+highSpelled open-end = open-word
+highSpelled (up-to top bottom) = fraction top bottom
 
 -- "one arc a line (kind, position, to, from)"
 abbrev pub arcLine : Step → List ℕ
@@ -74,7 +69,7 @@ arcLine a = line (decimal (number (a .kind))) (decimal (a .position) ∷ decimal
 
 -- the word and "the arc count, then one arc a line"
 abbrev pub circuitLines : List ℕ → List Step → List ℕ
-circuitLines word steps = line word (decimal (length steps) ∷ []) ++ joined (map arcLine steps)
+circuitLines word steps = line word (decimal (length steps) ∷ []) ++ each steps arcLine
 
 -- ""high" likewise, only if not open"
 abbrev pub highLines : High → List Step → List ℕ
@@ -92,4 +87,8 @@ timesAt s plan h = map (λ i. getD plan (node s h i) 0) (oneTo (s .n))
 
 -- ""plan" gives q and rounds at low, then one line per position with n times"
 abbrev pub planLines : Sheet → ℕ → ℕ → List ℕ → List ℕ
-planLines s q rounds plan = line plan-word (decimal q ∷ decimal rounds ∷ []) ++ joined (map (λ h. numbersLine (timesAt s plan h)) (oneTo (s .positions)))
+planLines s q rounds plan = line plan-word (decimal q ∷ decimal rounds ∷ []) ++ each (oneTo (s .positions)) (λ h. numbersLine (timesAt s plan h))
+
+-- "A refusal prints "refused" and the number."
+abbrev pub refusedLine : ℕ → List ℕ
+refusedLine k = line refused-word (decimal k ∷ [])

@@ -1,0 +1,34 @@
+-- What Ask answers of an admitted sheet, in room for 192 nodes, is the verdict: only p and q can be refused.
+use mathlib.Core.Path.{_≡_, refl, sym, _∙_}
+use mathlib.Core.Logic.{_⊎_, inl, inr}
+use mathlib.Core.Bool.{Bool, true, false}
+use mathlib.Core.List.{List}
+use Prim.Native.Nat.{ℕ}
+use native.Mathlib.Omega.{arith}
+use lib.ListN.{length}
+use Rattle.tables.specs.Sheets.{Sheet, refusal, unless}
+use Rattle.tables.proofs.Laws.{Admitted, accepted}
+use Rattle.windows.proofs.Steps.{never-both}
+use Rattle.ask.proofs.Room.{room}
+use Rattle.ask.specs.Ask as ask
+use Rattle.ask.specs.Ask.{Answer, Outcome, askRefusal, timed, number, planned}
+use Rattle.host.specs.Host.{Answers}
+
+module _ (s : Sheet) (p q : ℕ) (plan₀ circuit₀ : List ℕ) (admitted : refusal s ≡ 0) where
+  ok : Admitted s
+  ok = accepted s admitted
+
+  refusals : length plan₀ ≡ 192 → length circuit₀ ≡ 768 → askRefusal s p q plan₀ circuit₀ ≡ unless (timed p q) 10 0
+  refusals long wide = rw (admitted, room s admitted plan₀ circuit₀ long wide)
+
+  by-time : (t : Bool) (a : Answer) (plan circuit : List ℕ) → askRefusal s p q plan₀ circuit₀ ≡ unless t 10 0 → Outcome s p q plan₀ circuit₀ a plan circuit → Answers t s p q (number a)
+  by-time true (ask.accepted rounds) plan circuit e o = inl (refl, (planned s p q plan, o .1 .plan-is .solves))
+  by-time true (ask.refuted count) plan circuit e o = inr (refl, λ x. never-both s (ok .size .some-positions) p q (x .0) (x .1) (o .1 .steps) (o .1 .refutes))
+  by-time true (ask.refused k) plan circuit e o = absurd (o .1 (sym (o .0) ∙ e))
+  by-time false (ask.accepted rounds) plan circuit e o = absurd (omega (arith, e, o .0))
+  by-time false (ask.refuted count) plan circuit e o = absurd (omega (arith, e, o .0))
+  by-time false (ask.refused k) plan circuit e o = sym (o .0) ∙ e
+
+  -- THEOREM: the number of Ask's answer is the verdict on a sheet that was read
+  pub answers : length plan₀ ≡ 192 → length circuit₀ ≡ 768 → (a : Answer) (plan circuit : List ℕ) → Outcome s p q plan₀ circuit₀ a plan circuit → Answers (timed p q) s p q (number a)
+  answers long wide a plan circuit o = by-time (timed p q) a plan circuit (refusals long wide) o

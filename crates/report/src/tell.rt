@@ -1,0 +1,191 @@
+// From a file's bytes to the text of its report: each answer is asked for in room of the work's own, and handed to its lines.
+// This file knows which call answers what; it knows no spelling.
+use ask::Asked;
+use ends::Ended;
+use ends::High;
+use lines::put_found;
+use lines::put_none;
+use lines::put_plan;
+use lines::put_refused;
+use sheet::Read;
+ghost use mathlib.Core.Path.{_≡_};
+ghost use mathlib.Core.Logic.{_⊎_};
+ghost use Prim.Native.Nat.{_≤_};
+ghost use lib.ListN.{length};
+ghost use Rattle.tables.specs.Sheets.{sheet, refusal};
+ghost use Rattle.sheet.specs.File.{sheetIn};
+ghost use Rattle.ends.specs.Answers.{highest};
+ghost use Rattle.report.specs.Report.{TellsEnds, TellsNone, Tells};
+ghost use Rattle.report.specs.Told.{Stands, Low, PlanStands, Found};
+
+// Asks for the plan at low, which works, and puts its lines.
+fn tell_plan(
+    n: usize,
+    m: usize,
+    positions: usize,
+    tables: &[i32],
+    schedule: &[u8],
+    top: u64,
+    bottom: u64,
+    plan: &mut [u64],
+    circuit: &mut [u8],
+    out: &mut [u8],
+    at: usize,
+) -> usize
+    requires { ⌜ Low (sheet n m positions (now tables) (now schedule)) top bottom × (length (now plan) ≡ 192) × (length (now circuit) ≡ 768) × (at ≤ 40000) ⌝ }
+    ensures { λ r. ⌜ PlanStands (sheet n m positions (now (tables .entry)) (now (schedule .entry))) top bottom (now (out .entry)) at r (now (out .exit)) ⌝ }
+{
+    match ask::ask(
+        n,
+        m,
+        positions,
+        tables,
+        schedule,
+        top,
+        bottom,
+        plan,
+        circuit,
+    ) {
+        Asked::Accepted { rounds } => put_plan(out, at, bottom, rounds, plan, n, positions),
+        Asked::Refuted { arcs: _ } => at,
+        Asked::Refused { number: _ } => at,
+    }
+}
+
+// The lines of a sheet with ends: these, their circuits and the plan at low.
+fn tell_found(
+    n: usize,
+    m: usize,
+    positions: usize,
+    tables: &[i32],
+    schedule: &[u8],
+    top: u64,
+    bottom: u64,
+    high: High,
+    first: &[u8],
+    arcs: usize,
+    second: &[u8],
+    others: usize,
+    out: &mut [u8],
+) -> usize
+    requires { ⌜ Found (sheet n m positions (now tables) (now schedule)) top bottom (highest high) (now first) arcs (now second) others ⌝ }
+    ensures { λ r. ⌜ Stands (TellsEnds (sheet n m positions (now (tables .entry)) (now (schedule .entry)))) (now (out .entry)) r (now (out .exit)) ⌝ }
+{
+    let at = put_found(out, top, bottom, high, first, arcs, second, others);
+    let mut plan = [0u64; 192];
+    let mut circuit = [0u8; 768];
+    tell_plan(
+        n,
+        m,
+        positions,
+        tables,
+        schedule,
+        top,
+        bottom,
+        &mut plan,
+        &mut circuit,
+        out,
+        at,
+    )
+}
+
+// Finds the ends of an admitted sheet, and puts the lines of what it finds.
+fn tell_sheet(
+    n: usize,
+    m: usize,
+    positions: usize,
+    tables: &[i32],
+    schedule: &[u8],
+    first: &mut [u8],
+    second: &mut [u8],
+    out: &mut [u8],
+) -> usize
+    requires { ⌜ (refusal (sheet n m positions (now tables) (now schedule)) ≡ 0) × (length (now first) ≡ 768) × (length (now second) ≡ 768) ⌝ }
+    ensures { λ r. ⌜ Stands (λ text. TellsEnds (sheet n m positions (now (tables .entry)) (now (schedule .entry))) text ⊎ TellsNone (sheet n m positions (now (tables .entry)) (now (schedule .entry))) text) (now (out .entry)) r (now (out .exit)) ⌝ }
+{
+    match ends::ends(n, m, positions, tables, schedule, first, second) {
+        Ended::Found {
+            top,
+            bottom,
+            high,
+            first: arcs,
+            second: others,
+        } => tell_found(
+            n,
+            m,
+            positions,
+            tables,
+            schedule,
+            top,
+            bottom,
+            high,
+            first,
+            arcs,
+            second,
+            others,
+            out,
+        ),
+        Ended::None {
+            first: arcs,
+            second: others,
+        } => put_none(out, first, arcs, second, others),
+        Ended::Refused { number: _ } => 0,
+    }
+}
+
+// Makes room for two circuits of 192 arcs.
+fn tell_admitted(
+    n: usize,
+    m: usize,
+    positions: usize,
+    tables: &[i32],
+    schedule: &[u8],
+    out: &mut [u8],
+) -> usize
+    requires { ⌜ refusal (sheet n m positions (now tables) (now schedule)) ≡ 0 ⌝ }
+    ensures { λ r. ⌜ Stands (λ text. TellsEnds (sheet n m positions (now (tables .entry)) (now (schedule .entry))) text ⊎ TellsNone (sheet n m positions (now (tables .entry)) (now (schedule .entry))) text) (now (out .entry)) r (now (out .exit)) ⌝ }
+{
+    let mut first = [0u8; 768];
+    let mut second = [0u8; 768];
+    tell_sheet(
+        n,
+        m,
+        positions,
+        tables,
+        schedule,
+        &mut first,
+        &mut second,
+        out,
+    )
+}
+
+// Reads the sheet, and tells of it in the first places of the room that it was read into, or of its refusal.
+fn tell_read(file: &[u8], tables: &mut [i32], schedule: &mut [u8], out: &mut [u8]) -> usize
+    requires { ⌜ (length (now tables) ≡ 4608) × (length (now schedule) ≡ 16) ⌝ }
+    ensures { λ r. ⌜ Stands (Tells (sheetIn (now (file .entry)))) (now (out .entry)) r (now (out .exit)) ⌝ }
+{
+    let read = sheet::read_sheet(file, tables, schedule);
+    match read {
+        Read::Refused { number } => put_refused(out, number),
+        Read::Done { n, m, positions } => {
+            let places = 4 * m * (n * n);
+            tell_admitted(
+                n,
+                m,
+                positions,
+                &tables[..places],
+                &schedule[..positions],
+                out,
+            )
+        }
+    }
+}
+
+// Makes room for the largest sheet.
+pub fn tell(file: &[u8], out: &mut [u8]) -> usize
+    ensures { λ r. ⌜ Stands (Tells (sheetIn (now (file .entry)))) (now (out .entry)) r (now (out .exit)) ⌝ }
+{
+    let mut tables = [0i32; 4608];
+    let mut schedule = [0u8; 16];
+    tell_read(file, &mut tables, &mut schedule, out)
+}

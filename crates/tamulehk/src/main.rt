@@ -1,0 +1,23 @@
+// The report program: a sheet on standard input, its report on standard output.
+// It only reads and writes: the report is crate `report`'s. An unreadable standard input counts as empty.
+use libc::STDIN_FILENO;
+use libc::STDOUT_FILENO;
+use report::Told;
+
+// Writes the report of a file's bytes out, by way of a buffer with room for every report.
+fn print(file: &[u8], out: &mut [u8]) {
+    match report::report(file, out) {
+        Told::Written { length } => {
+            io::write_all(STDOUT_FILENO, &out[..length]);
+        }
+        Told::Refused { number: _ } => {}
+    }
+}
+
+// Of a longer file the first 27,685 bytes are judged, and so are all that is read.
+fn main() {
+    let mut file = [0u8; 27685];
+    let count = io::read_full(STDIN_FILENO, &mut file);
+    let mut out = [0u8; 8192];
+    print(&file[..count], &mut out);
+}
