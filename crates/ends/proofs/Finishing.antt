@@ -19,17 +19,17 @@ use Rattle.windows.specs.Circuits.{numbers, CircuitOf}
 use Rattle.windows.proofs.Limits.{sheet-laid, nodes-few}
 use Rattle.ends.specs.Ends as ends
 use Rattle.ends.specs.Ends.{roomy, endsRefusal, Holds, Outcome}
-use Rattle.ends.specs.Weights.{copied}
-use Rattle.ends.specs.Climbs.{Held, OneHeld, TwoHeld}
-use Rattle.ends.specs.Searches.{Stands, Rests, Overhead, Descends, Fresh, Climbs}
+use Rattle.search.specs.Copies.{copied}
+use Rattle.search.specs.Climbs.{Held, OneHeld, TwoHeld}
+use Rattle.search.specs.Searches.{Stands, Rests, Overhead, Descends, Fresh, Climbs}
 use Rattle.ends.specs.Answers.{FindReady, LowReady}
-use Rattle.ends.specs.declared.search.Stand.{Stand}
-use Rattle.ends.specs.declared.search.Climbed.{Climbed}
-use Rattle.ends.specs.declared.search.Climbed.the-variants as climbed
-use Rattle.ends.specs.declared.search.Descended.{Descended}
-use Rattle.ends.specs.declared.search.Descended.the-variants as descended
-use Rattle.ends.proofs.Held.{count-few}
-use Rattle.ends.proofs.Climbing.{copied-starts}
+use Rattle.search.specs.declared.Stand.{Stand}
+use Rattle.search.specs.declared.Climbed.{Climbed}
+use Rattle.search.specs.declared.Climbed.the-variants as climbed
+use Rattle.search.specs.declared.Descended.{Descended}
+use Rattle.search.specs.declared.Descended.the-variants as descended
+use Rattle.weights.proofs.Held.{count-few}
+use Rattle.search.proofs.Climbing.{copied-starts}
 use Rattle.ends.proofs.Found.{range-runs, never-runs}
 
 -- ---- no refusal fits

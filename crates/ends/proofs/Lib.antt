@@ -1,12 +1,4 @@
 pub mod Unique
 pub mod Found
-pub mod Places
-pub mod Weighing
 pub mod Held
-pub mod Copies
-pub mod Climbing
-pub mod Searching
-pub mod Asking
-pub mod Stepping
-pub mod Ending
 pub mod Finishing

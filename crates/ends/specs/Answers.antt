@@ -9,12 +9,12 @@ use Rattle.tables.specs.Sheets.{Sheet}
 use Rattle.windows.specs.Arcs.{arcs}
 use Rattle.ends.specs.Ends as ends
 use Rattle.ends.specs.Ends.{endsRefusal}
-use Rattle.ends.specs.Searches.{Stands}
+use Rattle.search.specs.Searches.{Stands}
 use Rattle.ends.specs.declared.High.{High}
 use Rattle.ends.specs.declared.High.the-variants as high
 use Rattle.ends.specs.declared.Ended.{Ended}
 use Rattle.ends.specs.declared.Ended.the-variants as ended
-use Rattle.ends.specs.declared.search.Stand.{Stand}
+use Rattle.search.specs.declared.Stand.{Stand}
 
 abbrev pub highest : High → theory.High
 highest high.Open = theory.open-end

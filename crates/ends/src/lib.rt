@@ -1,15 +1,10 @@
 // Ends: the lowest and highest cycle time of a sheet in memory.
 // This crate knows low, high, "open" and "none" with the circuits that show them; it knows no file.
 // It renders document 01's "Ends" and the line on Ends in "Numbers a call can answer".
-mod circuits;
-mod limits;
-mod search;
-mod weights;
-
-use circuits::copy;
 use search::Climbed;
 use search::Descended;
 use search::Stand;
+use search::circuits::copy;
 ghost use mathlib.Core.Path.{_≡_};
 ghost use mathlib.Core.Bool.{_&&_};
 ghost use Prim.Native.Nat.{_*_, _≤_};

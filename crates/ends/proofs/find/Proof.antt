@@ -6,9 +6,9 @@ use Rattle.ends.proofs.find.Statement.{statement}
 use Rattle.ends.proofs.find.Tie as tie
 use Rattle.ends.proofs.find.Reads as reads
 use Rattle.ends.proofs.find.Lts as lts
-use Rattle.ends.proofs.circuits.copy.Reads as copy-reads
+use Rattle.search.proofs.circuits.copy.Reads as copy-reads
 use Rattle.ends.proofs.finish_low.Reads as finish-low-reads
-use Rattle.ends.proofs.search.climb.Reads as climb-reads
+use Rattle.search.proofs.climb.Reads as climb-reads
 
 -- src/lib.rt:114:11
 climb-requires : tie.Need-climb-requires

@@ -6,8 +6,8 @@ use Rattle.ends.proofs.finish_low.Statement.{statement}
 use Rattle.ends.proofs.finish_low.Tie as tie
 use Rattle.ends.proofs.finish_low.Reads as reads
 use Rattle.ends.proofs.finish_low.Lts as lts
-use Rattle.ends.proofs.circuits.copy.Reads as copy-reads
-use Rattle.ends.proofs.search.descend.Reads as descend-reads
+use Rattle.search.proofs.circuits.copy.Reads as copy-reads
+use Rattle.search.proofs.descend.Reads as descend-reads
 
 -- src/lib.rt:70:11
 descend-requires : tie.Need-descend-requires

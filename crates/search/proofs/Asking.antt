@@ -1,0 +1,71 @@
+-- What Ask answers to the search: it works, or a circuit is above zero. A refusal is out of the question.
+use mathlib.Core.Path.{_≡_, refl, sym, ap, _∙_, subst}
+use mathlib.Core.List.{List, _++_}
+use Prim.Native.Nat.{ℕ, zero, suc, _+_, _-_, _*_, _≤_, _<_}
+use native.Mathlib.Omega.{arith}
+use native.Mathlib.Nat.{mul-le-mul-right}
+use lib.ListN.{length, drop, length-append, length-drop}
+use Rattle.theory.specs.Arcs.{Works}
+use Rattle.tables.specs.Sheets.{Sheet, refusal}
+use Rattle.tables.proofs.Laws.{Admitted, accepted}
+use Rattle.windows.specs.Arcs.{nodes, arcs}
+use Rattle.windows.specs.Circuits.{numbers}
+use Rattle.windows.proofs.Endless.{meaning}
+use Rattle.windows.proofs.Limits.{nodes-few}
+use Rattle.windows.proofs.Numbers.{numbers-length}
+use Rattle.ask.specs.Ask as ask
+use Rattle.ask.specs.Ask.{askRefusal, Shows}
+use Rattle.ask.specs.Answers.{answer}
+use Rattle.ask.specs.declared.Asked.{Asked}
+use Rattle.ask.specs.declared.Asked.the-variants as asked
+use Rattle.ask.proofs.Room.{unrefused}
+use Rattle.search.specs.Climbs.{Beats, LowHeld, HighHeld}
+use Rattle.search.specs.Searches.{Ready, Asks, Stands}
+use Rattle.search.specs.declared.Stand.{Stand}
+use Rattle.weights.proofs.Held.{count-few}
+
+module _ (s : Sheet) (at : Stand) (found₀ : List ℕ) (r : Ready s at found₀) where
+  ok : Admitted s
+  ok = accepted s (r .admitted)
+
+  refused-not : (plan : List ℕ) → length plan ≡ 192 → askRefusal s (at .top) (at .bottom) plan found₀ ≡ 0
+  refused-not plan long = unrefused s (r .admitted) plan found₀ long (r .room) (at .top) (at .bottom) (r .some) (r .few) (r .small)
+
+  -- a refutation leaves its circuit at the front
+  shows-beats : (plan₀ plan found : List ℕ) (count : ℕ) → Shows s (at .top) (at .bottom) plan₀ found₀ count plan found → Beats s (at .top) (at .bottom) found count
+  shows-beats plan₀ plan found count h =
+      record { steps = h .steps; circuit = h .refutes .circuit; counted = h .counted; rest = drop (4 * count) found₀; starts = h .circuit-is; above = h .refutes .above }
+
+  shows-room : (plan₀ plan found : List ℕ) (count : ℕ) → Shows s (at .top) (at .bottom) plan₀ found₀ count plan found → length found ≡ 768
+  shows-room plan₀ plan found count h =
+      omega (
+        arith,
+        ap length (h .circuit-is),
+        length-append (numbers (h .steps)) (drop (4 * count) found₀),
+        length-drop (4 * count) found₀,
+        numbers-length (h .steps),
+        h .counted,
+        count-few s (r .admitted) (h .steps) (drop (4 * count) found₀) found count (h .refutes .circuit) (h .counted) (h .circuit-is),
+        nodes-few s ok,
+        r .room,
+      )
+
+  -- THEOREM: Ask's outcome, where it is asked by the search
+  pub asks : (a : Asked) (plan₀ plan found : List ℕ) → length plan₀ ≡ 192 → ask.Outcome s (at .top) (at .bottom) plan₀ found₀ (answer a) plan found → Asks s at a found
+  asks (asked.Accepted rounds) plan₀ plan found long o =
+      (meaning s (ok .size .some-positions) (at .top) (at .bottom) .0 (ask.planned s (at .top) (at .bottom) plan, o .1 .plan-is .solves), ap length (o .1 .circuit-same) ∙ r .room)
+  asks (asked.Refuted count) plan₀ plan found long o = (shows-beats plan₀ plan found count (o .1), shows-room plan₀ plan found count (o .1))
+  asks (asked.Refused k) plan₀ plan found long o = o .1 (sym (o .0) ∙ refused-not plan₀ long)
+
+-- where the climb stands, Ask may be asked
+pub stands-ready : (s : Sheet) (at : Stand) (low found : List ℕ) → Stands s at low found → Ready s at found
+stands-ready s at low found h =
+    let ok = accepted s (h .admitted) in
+    let l = h .held .low in
+    record {
+      admitted = h .admitted;
+      some = l .positive;
+      few = omega (arith, l .few, ok .size .few-events);
+      small = omega (arith, l .small, nodes-few s ok, mul-le-mul-right 1000000 (nodes-few s ok));
+      room = h .found-room;
+    }

@@ -1,0 +1,3 @@
+pub mod Copies
+pub mod Climbs
+pub mod Searches

@@ -1,0 +1,178 @@
+// A circuit's sums, added up from the tables: W, the total of its limits, and c, its kind-3 crossings less its kind-2 crossings.
+// This crate knows a circuit's four numbers an arc and what each adds; it knows no cycle time.
+// It renders document 01's weights and crossings of "Arcs", and W and c of "Circuits".
+use limits::Weight;
+ghost use mathlib.Core.Path.{_≡_};
+ghost use Prim.Native.Nat.{_/_, _+_, _*_, _-_, _≤_, _<_};
+ghost use lib.ListN.{length, getD};
+ghost use Rattle.tables.specs.Sheets.{sheet, place};
+ghost use Rattle.windows.specs.Circuits.{kindOf, stepAt, stepsIn};
+ghost use Rattle.weights.specs.Weights.{stepOf, limitOf, kindWeight, weightOf, weightsOf, Light, plus, Names, NamesAt, Lists};
+
+// The mode at a position of the schedule.
+fn mode_at(schedule: &[u8], position: usize) -> usize
+    requires { ⌜ (1 ≤ position) × (position ≤ length (now schedule)) ⌝ }
+    ensures { λ r. ⌜ r ≡ getD (now (schedule .entry)) (position - 1) 0 ⌝ }
+{
+    wide(schedule[position - 1])
+}
+
+// Where a window stands in the tables.
+fn place_of(n: usize, t: usize, kind: usize, to: usize, from: usize) -> usize
+    requires { ⌜ (n ≤ 12) × (t < 8) × (kind < 4) × (1 ≤ to) × (to ≤ n) × (1 ≤ from) × (from ≤ n) ⌝ }
+    ensures { λ r. ⌜ r ≡ place n t kind to from ⌝ }
+{
+    let row = (4 * t + kind) * n + (to - 1);
+    row * n + (from - 1)
+}
+
+// The limit of the window that four numbers name.
+fn limit(
+    n: usize,
+    m: usize,
+    positions: usize,
+    tables: &[i32],
+    schedule: &[u8],
+    kind: u8,
+    position: u8,
+    to: u8,
+    from: u8,
+) -> i32
+    requires { ⌜ Names (sheet n m positions (now tables) (now schedule)) kind position to from ⌝ }
+    ensures { λ r. ⌜ r ≡ limitOf (sheet n m positions (now (tables .entry)) (now (schedule .entry))) (stepOf kind position to from) ⌝ }
+{
+    let t = mode_at(schedule, wide(position));
+    let at = place_of(n, t, wide(kind), wide(to), wide(from));
+    tables[at]
+}
+
+fn wide(byte: u8) -> usize
+    ensures { λ r. ⌜ r ≡ byte ⌝ }
+{
+    byte as usize
+}
+
+// 1 where what follows a position lies in the next period, else 0.
+fn crossing(positions: usize, position: u8) -> u64
+    requires { ⌜ (0 < positions) × (position ≤ positions) ⌝ }
+    ensures { λ r. ⌜ (r ≡ position / positions) × (r ≤ 1) ⌝ }
+{
+    if wide(position) == positions { 1 } else { 0 }
+}
+
+// What an arc of a kind adds, from the parts of its limit: the kind decides the direction, and so which part counts up, and whether crossing
+// the period's end gains or loses the cycle time.
+fn by_kind(kind: u8, up: u64, down: u64, crosses: u64) -> Weight
+    ensures { λ r. ⌜ r ≡ kindWeight (kindOf kind) up down crosses ⌝ }
+{
+    match kind {
+        0 => Weight {
+            ups: up,
+            downs: down,
+            forths: 0,
+            backs: 0,
+        },
+        1 => Weight {
+            ups: down,
+            downs: up,
+            forths: 0,
+            backs: 0,
+        },
+        2 => Weight {
+            ups: up,
+            downs: down,
+            forths: 0,
+            backs: crosses,
+        },
+        3..=255 => Weight {
+            ups: down,
+            downs: up,
+            forths: crosses,
+            backs: 0,
+        },
+    }
+}
+
+// What one arc adds to a circuit's sums.
+fn weigh_arc(
+    n: usize,
+    m: usize,
+    positions: usize,
+    tables: &[i32],
+    schedule: &[u8],
+    kind: u8,
+    position: u8,
+    to: u8,
+    from: u8,
+) -> Weight
+    requires { ⌜ Names (sheet n m positions (now tables) (now schedule)) kind position to from ⌝ }
+    ensures { λ r. ⌜ (r ≡ weightOf (sheet n m positions (now (tables .entry)) (now (schedule .entry))) (stepOf kind position to from)) × Light 1 r ⌝ }
+{
+    let value = limit(n, m, positions, tables, schedule, kind, position, to, from);
+    let up = layout::upper(value);
+    let down = layout::lower(value);
+    let crosses = crossing(positions, position);
+    by_kind(kind, up, down, crosses)
+}
+
+// The sums of two lists of arcs together.
+fn add(a: Weight, b: Weight) -> Weight
+    requires { ⌜ Light 192 a × Light 1 b ⌝ }
+    ensures { λ r. ⌜ r ≡ plus a b ⌝ }
+{
+    Weight {
+        ups: a.ups + b.ups,
+        downs: a.downs + b.downs,
+        forths: a.forths + b.forths,
+        backs: a.backs + b.backs,
+    }
+}
+
+// What the arc at k of a circuit adds.
+fn weigh_at(
+    n: usize,
+    m: usize,
+    positions: usize,
+    tables: &[i32],
+    schedule: &[u8],
+    circuit: &[u8],
+    k: usize,
+) -> Weight
+    requires { ⌜ (k < 192) × (4 * k + 3 < length (now circuit)) × NamesAt (sheet n m positions (now tables) (now schedule)) (now circuit) k ⌝ }
+    ensures { λ r. ⌜ (r ≡ weightOf (sheet n m positions (now (tables .entry)) (now (schedule .entry))) (stepAt (now (circuit .entry)) k)) × Light 1 r ⌝ }
+{
+    let at = 4 * k;
+    let kind = circuit[at];
+    let position = circuit[at + 1];
+    let to = circuit[at + 2];
+    let from = circuit[at + 3];
+    weigh_arc(n, m, positions, tables, schedule, kind, position, to, from)
+}
+
+// The sums of the first arcs of a circuit.
+pub fn weigh(
+    n: usize,
+    m: usize,
+    positions: usize,
+    tables: &[i32],
+    schedule: &[u8],
+    circuit: &[u8],
+    count: usize,
+) -> Weight
+    requires { ⌜ Lists (sheet n m positions (now tables) (now schedule)) (now circuit) count ⌝ }
+    ensures { λ r. ⌜ (r ≡ weightsOf (sheet n m positions (now (tables .entry)) (now (schedule .entry))) (stepsIn (now (circuit .entry)) count)) × Light 192 r ⌝ }
+{
+    let mut total = Weight {
+        ups: 0,
+        downs: 0,
+        forths: 0,
+        backs: 0,
+    };
+    let mut k: usize = 0;
+    while k < count {
+        let arc = weigh_at(n, m, positions, tables, schedule, circuit, k);
+        total = add(total, arc);
+        k += 1;
+    }
+    total
+}
