@@ -36,7 +36,7 @@ use Rattle.ends.specs.Answers as ended-answers
 use Rattle.ends.specs.declared.Ended.{Ended}
 use Rattle.ends.specs.declared.Ended.the-variants as ended
 use Rattle.ends.specs.declared.High as declared-high
-use Rattle.ends.proofs.Held.{count-few}
+use Rattle.weights.proofs.Held.{count-few}
 use Rattle.lines.specs.Lines.{low-word, none-word, first-word, second-word, line, circuitLines, highLines, planLines, refusedLine}
 use Rattle.lines.specs.Held.{planText, endsText, foundText, noneText}
 use Rattle.report.specs.Report.{TellsEnds, TellsNone, Tells}
