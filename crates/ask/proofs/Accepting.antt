@@ -8,17 +8,18 @@ use Rattle.theory.specs.Arcs.{table, Still, Rounds}
 use Rattle.tables.specs.Sheets.{Sheet}
 use Rattle.tables.proofs.Laws.{Admitted}
 use Rattle.windows.specs.Arcs.{nodes, arcs}
-use Rattle.layout.specs.Records.{Lists, Modes}
+use Rattle.layout.specs.declared.Window.{Window as Item}
+use Rattle.layout.specs.Records.{Modes}
 use Rattle.rounds.specs.Rounds.{walked, Ran}
 use Rattle.rounds.proofs.Sheets.{table-is}
 use Rattle.ask.specs.Ask.{Accepts}
 use Rattle.ask.specs.Ways.{Filled}
 use Rattle.ask.proofs.Earliest.{table-earliest}
 
-module _ (s : Sheet) (ok : Admitted s) (p q : ℕ) (l : Lists) (start : List ℕ) (w : ℕ) (laid : Modes (s .tables) (s .n) q l start (s .m) w)
-    (r node : ℕ) (times marks : List ℕ) (ran : Ran (walked l start (s .schedule) (s .n) (s .positions) p (s .positions)) (nodes s) r node times marks) where
+module _ (s : Sheet) (ok : Admitted s) (p q : ℕ) (l : List Item) (start : List ℕ) (laid : Modes (s .tables) (s .n) l start (s .m))
+    (r node : ℕ) (times marks : List ℕ) (ran : Ran (walked l start (s .schedule) (s .n) (s .positions) p q (s .positions)) (nodes s) r node times marks) where
   still : r < nodes s → Still (arcs s) p q (nodes s) r
-  still few v h = omega (arith, ran .still few v h, table-is s ok p q l start w laid (suc r) v, table-is s ok p q l start w laid r v)
+  still few v h = omega (arith, ran .still few v h, table-is s ok p q l start laid (suc r) v, table-is s ok p q l start laid r v)
 
   rounds : r < nodes s → Rounds (arcs s) p q (nodes s) r
   rounds few =
@@ -27,7 +28,7 @@ module _ (s : Sheet) (ok : Admitted s) (p q : ℕ) (l : Lists) (start : List ℕ
         least = λ k same. elim (decLt k r) [
           | yes h ↦
               let e = ran .rising k h in
-              absurd (omega (arith, e .2, same (e .0) (e .1), table-is s ok p q l start w laid (suc k) (e .0), table-is s ok p q l start w laid k (e .0)))
+              absurd (omega (arith, e .2, same (e .0) (e .1), table-is s ok p q l start laid (suc k) (e .0), table-is s ok p q l start laid k (e .0)))
           | no h ↦ omega arith
         ];
       }
@@ -36,7 +37,7 @@ module _ (s : Sheet) (ok : Admitted s) (p q : ℕ) (l : Lists) (start : List ℕ
   pub accepts : r < nodes s → (plan₀ circuit plan : List ℕ) → Filled times (nodes s) plan₀ plan → Accepts s p q plan₀ circuit r plan circuit
   accepts few plan₀ circuit plan f =
       record {
-        plan-is = table-earliest s (ok .size .some-positions) p q r (still few) plan (λ v h. f .inside v h ∙ ran .table v h ∙ table-is s ok p q l start w laid r v);
+        plan-is = table-earliest s (ok .size .some-positions) p q r (still few) plan (λ v h. f .inside v h ∙ ran .table v h ∙ table-is s ok p q l start laid r v);
         rounds-are = rounds few;
         plan-length = f .long;
         plan-rest = f .rest;

@@ -10,7 +10,8 @@ use lib.Seq.{getD-set-same, getD-set-other}
 use Rattle.theory.specs.Circuits.{Fresh, Distinct}
 use Rattle.theory.proofs.Pigeon.{Below, pigeon}
 use Rattle.rounds.specs.Rounds.{span}
-use Rattle.ask.specs.Ways.{departureOf, Names, Shown, markAt, way, Led, Found, Least, part}
+use Rattle.layout.specs.declared.Window.{Window as Item}
+use Rattle.ask.specs.Ways.{leaves, Marked, Shown, markAt, way, Led, Found, Least, part}
 
 -- ---- numbers of a list by their places
 pub part-length : (xs : List ℕ) (m a : ℕ) → length (part xs a m) ≡ m
@@ -36,16 +37,16 @@ part-distinct xs (suc m) a e q h =
 
 -- ---- the way back as far as level r, where it is at u: the node of each level from r to N, the mark between each and the next, and
 -- for each node above r its level
-module _ (kinds tos froms marks : List ℕ) (n positions N v : ℕ) where
+module _ (list : List Item) (marks : List ℕ) (n positions N v : ℕ) where
   abbrev W : ℕ → ℕ
-  W j = way (departureOf kinds tos froms n positions) marks N v j
+  W j = way (leaves list n positions) marks N v j
 
-  way-suc : (j : ℕ) → W (suc j) ≡ departureOf kinds tos froms n positions (markAt marks (N - suc j) (W j))
+  way-suc : (j : ℕ) → W (suc j) ≡ leaves list n positions (markAt marks (N - suc j) (W j))
   unfolding way
   way-suc j = refl
 
-  way-step : (q j m u : ℕ) → m ≡ suc j → N - suc j ≡ q → markAt marks q u ≡ markAt marks q (W j) → departureOf kinds tos froms n positions (markAt marks q u) ≡ W m
-  way-step q j m u a b c = ap (departureOf kinds tos froms n positions) (c ∙ ap (λ (x : ℕ). markAt marks x (W j)) (sym b)) ∙ sym (way-suc j) ∙ ap W (sym a)
+  way-step : (q j m u : ℕ) → m ≡ suc j → N - suc j ≡ q → markAt marks q u ≡ markAt marks q (W j) → leaves list n positions (markAt marks q u) ≡ W m
+  way-step q j m u a b c = ap (leaves list n positions) (c ∙ ap (λ (x : ℕ). markAt marks x (W j)) (sym b)) ∙ sym (way-suc j) ∙ ap W (sym a)
 
   pub record Trail (path node seen : List ℕ) (r u : ℕ) : Type 0 where
     pub low : r ≤ N
@@ -62,10 +63,10 @@ module _ (kinds tos froms marks : List ℕ) (n positions N v : ℕ) where
     pub low : r ≤ N
     pub few : N ≤ 192
     pub long : length marks ≡ 36864
-    pub names : Names kinds tos froms n positions (markAt marks (r - 1) u)
-    pub next : departureOf kinds tos froms n positions (markAt marks (r - 1) u) < N
+    pub names : Marked list n positions (markAt marks (r - 1) u)
+    pub next : leaves list n positions (markAt marks (r - 1) u) < N
 
-  pub start-in : Led kinds tos froms marks n positions N v → v < N
+  pub start-in : Led list marks n positions N v → v < N
   unfolding way
   start-in led = led .inside 0 (omega arith)
 
@@ -81,7 +82,7 @@ module _ (kinds tos froms marks : List ℕ) (n positions N v : ℕ) where
         only = λ x s e. absurd (omega (arith, z x));
       }
 
-  module _ (led : Led kinds tos froms marks n positions N v) (path node seen : List ℕ) (r u : ℕ) (t : Trail path node seen r u) where
+  module _ (led : Led list marks n positions N v) (path node seen : List ℕ) (r u : ℕ) (t : Trail path node seen r u) where
     below : (k : ℕ) → r ≤ k → k ≤ N → getD node k 0 < N
     below k p q = omega (arith, t .nodes k p q, led .inside (N - k) (omega arith))
 
@@ -109,7 +110,7 @@ module _ (kinds tos froms marks : List ℕ) (n positions N v : ℕ) where
       ))
     ]
 
-    pub trail-found : (s : ℕ) → getD seen u 0 ≡ suc s → Found (departureOf kinds tos froms n positions) marks N v path node r s
+    pub trail-found : (s : ℕ) → getD seen u 0 ≡ suc s → Found (leaves list n positions) marks N v path node r s
     trail-found s z =
         let o = t .only u s z in
         record {
@@ -125,7 +126,7 @@ module _ (kinds tos froms marks : List ℕ) (n positions N v : ℕ) where
     at-level : (q : ℕ) → r ≡ suc q → markAt marks q u ≡ markAt marks q (W (N - suc q))
     at-level q e = ap (λ (x : ℕ). markAt marks q x) (sym (t .top) ∙ t .nodes r (omega arith) (t .low) ∙ ap (λ (x : ℕ). W (N - x)) e)
 
-    way-next : (q : ℕ) → r ≡ suc q → departureOf kinds tos froms n positions (markAt marks q u) ≡ W (N - q)
+    way-next : (q : ℕ) → r ≡ suc q → leaves list n positions (markAt marks q u) ≡ W (N - q)
     way-next q e = way-step q (N - suc q) (N - q) u (omega (arith, t .low)) (omega (arith, t .low)) (at-level q e)
 
     pub turn : getD seen u 0 ≡ 0 → Turn r u
@@ -139,7 +140,7 @@ module _ (kinds tos froms marks : List ℕ) (n positions N v : ℕ) where
           low = t .low;
           few = led .few;
           long = led .long;
-          names = rw (at-level q e) (subst (λ (x : ℕ). Names kinds tos froms n positions (markAt marks x (W (N - suc q)))) (level q e) (led .named (N - suc q) (omega (arith, t .low))));
+          names = rw (at-level q e) (subst (λ (x : ℕ). Marked list n positions (markAt marks x (W (N - suc q)))) (level q e) (led .named (N - suc q) (omega (arith, t .low))));
           next = omega (arith, way-next q e, led .inside (N - q) (omega arith));
         }
       where
@@ -147,7 +148,7 @@ module _ (kinds tos froms marks : List ℕ) (n positions N v : ℕ) where
         level q e = omega (arith, t .low)
 
     -- one row further back
-    pub trail-more : getD seen u 0 ≡ 0 → (q a w m : ℕ) → r ≡ suc q → a ≡ markAt marks q u → w ≡ departureOf kinds tos froms n positions (markAt marks q u) → m ≡ suc r
+    pub trail-more : getD seen u 0 ≡ 0 → (q a w m : ℕ) → r ≡ suc q → a ≡ markAt marks q u → w ≡ leaves list n positions (markAt marks q u) → m ≡ suc r
         → q < length path → q < length node → u < length seen → Trail (set path q a) (set node q w) (set seen u m) q w
     trail-more z q a w m e b d f lp ln ls =
         record {
@@ -205,9 +206,9 @@ zero-at (suc n) zero = refl
 zero-at (suc n) (suc i) = zero-at n i
 
 -- the marks of a closed way name records
-pub found-shown : (kinds tos froms marks : List ℕ) (n positions N v : ℕ) (path node : List ℕ) (low high : ℕ) → Led kinds tos froms marks n positions N v → Found (departureOf kinds tos froms n positions) marks N v path node low high
-    → (i : ℕ) → low ≤ i → i < high → Shown kinds tos froms (getD path i 0)
-found-shown kinds tos froms marks n positions N v path node low high led f i h l =
+pub found-shown : (list : List Item) (marks : List ℕ) (n positions N v : ℕ) (path node : List ℕ) (low high : ℕ) → Led list marks n positions N v → Found (leaves list n positions) marks N v path node low high
+    → (i : ℕ) → low ≤ i → i < high → Shown (getD path i 0)
+found-shown list marks n positions N v path node low high led f i h l =
     let e : N - suc (N - suc i) ≡ i = omega (arith, f .within) in
-    let m = subst (λ (x : ℕ). Names kinds tos froms n positions (markAt marks x (way (departureOf kinds tos froms n positions) marks N v (N - suc i)))) e (led .named (N - suc i) (omega (arith, f .within))) in
-    rw (f .paths i h l) (record { some = m .some; position = omega (arith, m .position, m .limits .few-positions); kinds-long = m .kinds-long; tos-long = m .tos-long; froms-long = m .froms-long })
+    let m = subst (λ (x : ℕ). Marked list n positions (markAt marks x (way (leaves list n positions) marks N v (N - suc i)))) e (led .named (N - suc i) (omega (arith, f .within))) in
+    rw (f .paths i h l) (record { some = m .some; position = omega (arith, m .position, m .limits .few-positions) })

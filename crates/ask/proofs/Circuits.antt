@@ -17,10 +17,11 @@ use Rattle.windows.specs.Windows.{number}
 use Rattle.windows.specs.Arcs.{nodes, arcs}
 use Rattle.windows.specs.Circuits.{Step, numbers, stepArc, Valid, AllValid, Refutes}
 use Rattle.windows.proofs.Steps.{valid-in, valid-join}
-use Rattle.layout.specs.Records.{Lists, Room, Modes}
+use Rattle.layout.specs.declared.Window.{Window as Item}
+use Rattle.layout.specs.Records.{itemAt, Modes}
 use Rattle.rounds.specs.Rounds.{span, walked, Told, Rose}
 use Rattle.ask.specs.Ask.{Shows}
-use Rattle.ask.specs.Ways.{recordOf, departureOf, way, Found, Least, quads, part, Turned}
+use Rattle.ask.specs.Ways.{recordOf, leaves, way, Found, Least, quads, part, Turned}
 use Rattle.ask.proofs.Backs.{part-length, part-distinct}
 use Rattle.ask.proofs.Writing.{sets-append, quads-length}
 use Rattle.ask.proofs.Tracing.{stepOf, level, back-of, way-of}
@@ -43,14 +44,14 @@ first-part xs low high p l ys h zero e = absurd (omega (arith, l .below))
 first-part xs low high p l ys h (suc m) e =
     smallest-join (getD xs p 0) (part xs (suc p) m) ys (smallest-part (getD xs p 0) xs m (suc p) high (omega arith) (λ k a b. l .least k (omega (arith, l .from)) b)) h
 
-module _ (s : Sheet) (p q : ℕ) (kinds tos froms path node : List ℕ) where
+module _ (s : Sheet) (p q : ℕ) (list : List Item) (path node : List ℕ) where
   abbrev step : ℕ → Step
-  step mark = stepOf kinds tos froms mark
+  step mark = stepOf list mark
 
   -- the mark m names a step from the node u of level k to the node v of level k + 1, with exactly its rise
   record Linked (k m u v : ℕ) : Type 0 where
     valid : Valid s (step m)
-    kind : number (step m .kind) ≡ getD kinds (recordOf m) 0
+    kind : number (step m .kind) ≡ itemAt list (recordOf m) .kind
     leave : stepArc s (step m) .departure ≡ u
     arrive : stepArc s (step m) .arrival ≡ v
     exact : table (arcs s) p q (suc k) v + fall p q (stepArc s (step m)) ≡ table (arcs s) p q k u + rise p q (stepArc s (step m))
@@ -83,7 +84,7 @@ module _ (s : Sheet) (p q : ℕ) (kinds tos froms path node : List ℕ) where
   ring-valid zero a e q h = tt
   ring-valid (suc m) a e q h = (h a (omega arith) (omega arith) .valid, ring-valid m (suc a) e (omega arith) (λ j x. h j (omega arith)))
 
-  ring-numbers : (m a e : ℕ) → a + m ≡ e → Links a e → numbers (ring a m) ≡ quads kinds tos froms (part path a m)
+  ring-numbers : (m a e : ℕ) → a + m ≡ e → Links a e → numbers (ring a m) ≡ quads list (part path a m)
   unfolding span quads
   ring-numbers zero a e q h = refl
   ring-numbers (suc m) a e q h = rw (h a (omega arith) (omega arith) .kind, ring-numbers m (suc a) e (omega arith) (λ j x. h j (omega arith)))
@@ -102,14 +103,14 @@ numbers-append [] ds = refl
 numbers-append (c ∷ cs) ds = ap (λ (l : List ℕ). number (c .kind) ∷ c .position ∷ c .to ∷ c .from ∷ l) (numbers-append cs ds)
 
 -- ---- a closed stretch, whose upper end rose
-module _ (s : Sheet) (p q : ℕ) (kinds tos froms path node : List ℕ) (low high h : ℕ) (links : Links s p q kinds tos froms path node low high) (some : low < high) (top : high ≡ suc h)
+module _ (s : Sheet) (p q : ℕ) (list : List Item) (path node : List ℕ) (low high h : ℕ) (links : Links s p q list path node low high) (some : low < high) (top : high ≡ suc h)
     (closed : getD node high 0 ≡ getD node low 0) (apart : (i j : ℕ) → low ≤ i → i < j → j < high → getD node i 0 ≡ getD node j 0 → ⊥)
     (rose : table (arcs s) p q h (getD node high 0) < table (arcs s) p q high (getD node high 0)) (x : ℕ) (least : Least node low high x) where
   abbrev R : ℕ → ℕ → List Step
-  R a m = ring s p q kinds tos froms path node a m
+  R a m = ring s p q list path node a m
 
   abbrev C : ℕ → ℕ → List Arc
-  C a m = arcsOf s p q kinds tos froms path node a m
+  C a m = arcsOf s p q list path node a m
 
   front : low + (x - low) ≡ x
   front = omega (arith, least .from)
@@ -124,7 +125,7 @@ module _ (s : Sheet) (p q : ℕ) (kinds tos froms path node : List ℕ) (low hig
   above =
       omega (
         arith,
-        ring-sum s p q kinds tos froms path node (high - low) low high whole links,
+        ring-sum s p q list path node (high - low) low high whole links,
         rose,
         table-mono (arcs s) p q (getD node high 0) {r = low} {k = h} (omega arith),
         ap (table (arcs s) p q low) closed,
@@ -134,21 +135,21 @@ module _ (s : Sheet) (p q : ℕ) (kinds tos froms path node : List ℕ) (low hig
   circuit =
       record {
         node = getD node low 0;
-        closed = subst (λ (u : ℕ). Walk (arcs s) (getD node low 0) (C low (high - low)) u) closed (ring-walk s p q kinds tos froms path node (high - low) low high whole links);
-        nonempty = omega (arith, ring-length s p q kinds tos froms path node (high - low) low);
-        distinct = rw (ring-departures s p q kinds tos froms path node (high - low) low high whole links) (part-distinct node (high - low) low high whole apart);
+        closed = subst (λ (u : ℕ). Walk (arcs s) (getD node low 0) (C low (high - low)) u) closed (ring-walk s p q list path node (high - low) low high whole links);
+        nonempty = omega (arith, ring-length s p q list path node (high - low) low);
+        distinct = rw (ring-departures s p q list path node (high - low) low high whole links) (part-distinct node (high - low) low high whole apart);
       }
 
-  early : Links s p q kinds tos froms path node low x
+  early : Links s p q list path node low x
   early k a b = links k a (omega (arith, least .below))
 
-  late : Links s p q kinds tos froms path node x high
+  late : Links s p q list path node x high
   late k a b = links k (omega (arith, least .from)) b
 
   split : C low (high - low) ≡ C low (x - low) ++ C x (high - x)
   split =
-      ap (λ (l : List ℕ). map (stepArc s) (map (stepOf kinds tos froms) l)) (part-split path (x - low) (high - x) (high - low) low x (omega (arith, least .from, least .below)) front)
-      ∙ ap (map (stepArc s)) (map-append (stepOf kinds tos froms) (part path low (x - low)) (part path x (high - x)))
+      ap (λ (l : List ℕ). map (stepArc s) (map (stepOf list) l)) (part-split path (x - low) (high - x) (high - low) low x (omega (arith, least .from, least .below)) front)
+      ∙ ap (map (stepArc s)) (map-append (stepOf list) (part path low (x - low)) (part path x (high - x)))
       ∙ map-append (stepArc s) (R low (x - low)) (R x (high - x))
 
   -- the steps from the smallest node on
@@ -164,8 +165,8 @@ module _ (s : Sheet) (p q : ℕ) (kinds tos froms path node : List ℕ) (low hig
       rw (
         turned-arcs,
         departures-append (C x (high - x)) (C low (x - low)),
-        ring-departures s p q kinds tos froms path node (high - x) x high behind late,
-        ring-departures s p q kinds tos froms path node (x - low) low x front early,
+        ring-departures s p q list path node (high - x) x high behind late,
+        ring-departures s p q list path node (x - low) low x front early,
       )
       (first-part node low high x least (part node low (x - low)) (smallest-part (getD node x 0) node (x - low) low x front (λ k a b. least .least k a (omega (arith, least .below)))) (high - x) behind)
 
@@ -178,7 +179,7 @@ module _ (s : Sheet) (p q : ℕ) (kinds tos froms path node : List ℕ) (low hig
   refutes =
       record {
         circuit = record {
-          valid = valid-join s (R x (high - x)) (R low (x - low)) (ring-valid s p q kinds tos froms path node (high - x) x high behind late) (ring-valid s p q kinds tos froms path node (x - low) low x front early);
+          valid = valid-join s (R x (high - x)) (R low (x - low)) (ring-valid s p q list path node (high - x) x high behind late) (ring-valid s p q list path node (x - low) low x front early);
           circuit = subst (Circuit (arcs s)) (sym turned-arcs) (circuit-turn (arcs s) (C low (x - low)) (C x (high - x)) (subst (Circuit (arcs s)) split circuit));
           first = turned-first;
         };
@@ -193,40 +194,40 @@ module _ (s : Sheet) (p q : ℕ) (kinds tos froms path node : List ℕ) (low hig
         arith,
         least .from,
         least .below,
-        length-map (part path x (high - x)) (stepOf kinds tos froms),
-        length-map (part path low (x - low)) (stepOf kinds tos froms),
+        length-map (part path x (high - x)) (stepOf list),
+        length-map (part path low (x - low)) (stepOf list),
         part-length path (high - x) x,
         part-length path (x - low) low,
       )
 
   -- THEOREM: what is written is the four numbers of each step, and the rest stays
   turned-written : (old new : List ℕ) → (high - low) * 4 ≤ length old
-      → new ≡ sets (sets old (0 * 4) (quads kinds tos froms (part path x (high - x)))) ((high - x) * 4) (quads kinds tos froms (part path low (x - low)))
+      → new ≡ sets (sets old (0 * 4) (quads list (part path x (high - x)))) ((high - x) * 4) (quads list (part path low (x - low)))
       → new ≡ numbers turned ++ drop (4 * (high - low)) old
   unfolding turned
   turned-written old new room e =
-      let one = quads kinds tos froms (part path x (high - x)) in
-      let two = quads kinds tos froms (part path low (x - low)) in
+      let one = quads list (part path x (high - x)) in
+      let two = quads list (part path low (x - low)) in
       let long : length (one ++ two) ≡ 4 * (high - low) = length-append one two
-      ∙ omega (arith, least .from, least .below, quads-length kinds tos froms (part path x (high - x)), quads-length kinds tos froms (part path low (x - low)), part-length path (high - x) x, part-length path (x - low) low) in
+      ∙ omega (arith, least .from, least .below, quads-length list (part path x (high - x)), quads-length list (part path low (x - low)), part-length path (high - x) x, part-length path (x - low) low) in
       let count : 0 + length (one ++ two) ≡ 4 * (high - low) = omega (arith, long) in
       e
-      ∙ sets-append one two old (0 * 4) ((high - x) * 4) (omega (arith, quads-length kinds tos froms (part path x (high - x)), part-length path (high - x) x))
+      ∙ sets-append one two old (0 * 4) ((high - x) * 4) (omega (arith, quads-length list (part path x (high - x)), part-length path (high - x) x))
       ∙ sets-eq (one ++ two) old 0 (omega (arith, long))
       ∙ ap (λ (k : ℕ). (one ++ two) ++ drop k old) count
       ∙ ap (λ (l : List ℕ). l ++ drop (4 * (high - low)) old)
-      (ap₂ (λ (a b : List ℕ). a ++ b) (sym (ring-numbers s p q kinds tos froms path node (high - x) x high behind late)) (sym (ring-numbers s p q kinds tos froms path node (x - low) low x front early)) ∙ sym (numbers-append (R x (high - x)) (R low (x - low))))
+      (ap₂ (λ (a b : List ℕ). a ++ b) (sym (ring-numbers s p q list path node (high - x) x high behind late)) (sym (ring-numbers s p q list path node (x - low) low x front early)) ∙ sym (numbers-append (R x (high - x)) (R low (x - low))))
 
 -- ---- what the way back through the rounds' marks shows
-module _ (s : Sheet) (ok : Admitted s) (p q : ℕ) (l : Lists) (start : List ℕ) (w : ℕ) (laid : Modes (s .tables) (s .n) q l start (s .m) w) (room : Room l 4608) (marks : List ℕ) (N v : ℕ)
-    (told : (r u : ℕ) → r < N → u < N → Rose (walked l start (s .schedule) (s .n) (s .positions) p (s .positions)) r u → Told (walked l start (s .schedule) (s .n) (s .positions) p (s .positions)) marks r u)
-    (all : N ≡ nodes s) (below : v < N) (last : Rose (walked l start (s .schedule) (s .n) (s .positions) p (s .positions)) (N - 1) v)
-    (path node : List ℕ) (low high : ℕ) (f : Found (departureOf (l .kinds) (l .tos) (l .froms) (s .n) (s .positions)) marks N v path node low high) where
-  linked : Links s p q (l .kinds) (l .tos) (l .froms) path node low high
+module _ (s : Sheet) (ok : Admitted s) (p q : ℕ) (l : List Item) (start : List ℕ) (laid : Modes (s .tables) (s .n) l start (s .m)) (marks : List ℕ) (N v : ℕ)
+    (told : (r u : ℕ) → r < N → u < N → Rose (walked l start (s .schedule) (s .n) (s .positions) p q (s .positions)) r u → Told (walked l start (s .schedule) (s .n) (s .positions) p q (s .positions)) marks r u)
+    (all : N ≡ nodes s) (below : v < N) (last : Rose (walked l start (s .schedule) (s .n) (s .positions) p q (s .positions)) (N - 1) v)
+    (path node : List ℕ) (low high : ℕ) (f : Found (leaves l (s .n) (s .positions)) marks N v path node low high) where
+  linked : Links s p q l path node low high
   linked k a b =
       let h : k < N = omega (arith, f .within) in
-      let m = back-of s ok p q l start w laid room marks N v told all below last k h .is in
-      let way-k = way-of s ok p q l start w laid room marks N v told all below last k h in
+      let m = back-of s ok p q l start laid marks N v told all below last k h .is in
+      let way-k = way-of s ok p q l start laid marks N v told all below last k h in
       let upper = f .nodes (suc k) (omega arith) b in
       let lower = f .nodes k a (omega arith) in
       let mark = f .paths k a b in
@@ -235,22 +236,22 @@ module _ (s : Sheet) (ok : Admitted s) (p q : ℕ) (l : Lists) (start : List ℕ
 
   rose : (h : ℕ) → high ≡ suc h → table (arcs s) p q h (getD node high 0) < table (arcs s) p q high (getD node high 0)
   rose h e =
-      let x = level s ok p q l start w laid room marks N v told all below last (N - high) (omega arith) .1 in
+      let x = level s ok p q l start laid marks N v told all below last (N - high) (omega arith) .1 in
       let y : N - (N - high) ≡ suc h = omega (arith, f .within) in
-      let z = subst (λ (r : ℕ). Rises (arcs s) p q r (way (departureOf (l .kinds) (l .tos) (l .froms) (s .n) (s .positions)) marks N v (N - high))) y x in
-      rw (f .nodes high (omega (arith, f .some)) (omega arith), e) (subst (λ (k : ℕ). table (arcs s) p q h (way (departureOf (l .kinds) (l .tos) (l .froms) (s .n) (s .positions)) marks N v (N - k)) < table (arcs s) p q (suc h) (way (departureOf (l .kinds) (l .tos) (l .froms) (s .n) (s .positions)) marks N v (N - k))) e z)
+      let z = subst (λ (r : ℕ). Rises (arcs s) p q r (way (leaves l (s .n) (s .positions)) marks N v (N - high))) y x in
+      rw (f .nodes high (omega (arith, f .some)) (omega arith), e) (subst (λ (k : ℕ). table (arcs s) p q h (way (leaves l (s .n) (s .positions)) marks N v (N - k)) < table (arcs s) p q (suc h) (way (leaves l (s .n) (s .positions)) marks N v (N - k))) e z)
 
   -- THEOREM: the circuit that is written refutes p/q
-  pub shows : (plan old new : List ℕ) → N * 4 ≤ length old → Turned (l .kinds) (l .tos) (l .froms) path node low high old new → Shows s p q plan old (high - low) plan new
+  pub shows : (plan old new : List ℕ) → N * 4 ≤ length old → Turned l path node low high old new → Shows s p q plan old (high - low) plan new
   shows plan old new long t =
       let h = high - 1 in
       let e : high ≡ suc h = omega (arith, f .some) in
       let r = rose h e in
       let x = t .p in
       record {
-        steps = turned s p q (l .kinds) (l .tos) (l .froms) path node low high h linked (f .some) e (f .closed) (f .apart) r x (t .least);
-        refutes = refutes s p q (l .kinds) (l .tos) (l .froms) path node low high h linked (f .some) e (f .closed) (f .apart) r x (t .least);
-        counted = turned-length s p q (l .kinds) (l .tos) (l .froms) path node low high h linked (f .some) e (f .closed) (f .apart) r x (t .least);
-        circuit-is = turned-written s p q (l .kinds) (l .tos) (l .froms) path node low high h linked (f .some) e (f .closed) (f .apart) r x (t .least) old new (omega (arith, f .within)) (t .written);
+        steps = turned s p q l path node low high h linked (f .some) e (f .closed) (f .apart) r x (t .least);
+        refutes = refutes s p q l path node low high h linked (f .some) e (f .closed) (f .apart) r x (t .least);
+        counted = turned-length s p q l path node low high h linked (f .some) e (f .closed) (f .apart) r x (t .least);
+        circuit-is = turned-written s p q l path node low high h linked (f .some) e (f .closed) (f .apart) r x (t .least) old new (omega (arith, f .within)) (t .written);
         plan-same = refl;
       }

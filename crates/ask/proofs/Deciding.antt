@@ -7,7 +7,8 @@ use lib.ListN.{length}
 use Rattle.tables.specs.Sheets.{Sheet}
 use Rattle.tables.proofs.Laws.{Admitted}
 use Rattle.windows.specs.Arcs.{nodes}
-use Rattle.layout.specs.Records.{Lists, Room, Modes}
+use Rattle.layout.specs.declared.Window.{Window as Item}
+use Rattle.layout.specs.Records.{Modes}
 use Rattle.rounds.specs.Rounds.{Named, walked, Rose, Told, Ran}
 use Rattle.ask.specs.Ask as ask
 use Rattle.ask.specs.Ask.{Answer, askRefusal, Outcome}
@@ -16,10 +17,10 @@ use Rattle.ask.proofs.Tracing.{led}
 use Rattle.ask.proofs.Circuits.{shows}
 use Rattle.ask.proofs.Accepting.{accepts}
 
-module _ (s : Sheet) (ok : Admitted s) (p q : ℕ) (l : Lists) (start : List ℕ) (w : ℕ) (laid : Modes (s .tables) (s .n) q l start (s .m) w) (room : Room l 4608)
-    (rounds node : ℕ) (times marks : List ℕ) (ran : Ran (walked l start (s .schedule) (s .n) (s .positions) p (s .positions)) (nodes s) rounds node times marks) where
+module _ (s : Sheet) (ok : Admitted s) (p q : ℕ) (l : List Item) (start : List ℕ) (laid : Modes (s .tables) (s .n) l start (s .m))
+    (rounds node : ℕ) (times marks : List ℕ) (ran : Ran (walked l start (s .schedule) (s .n) (s .positions) p q (s .positions)) (nodes s) rounds node times marks) where
   abbrev A : List Named
-  A = walked l start (s .schedule) (s .n) (s .positions) p (s .positions)
+  A = walked l start (s .schedule) (s .n) (s .positions) p q (s .positions)
 
   full : nodes s ≤ rounds → rounds ≡ nodes s
   full h = omega (arith, ran .few)
@@ -28,18 +29,18 @@ module _ (s : Sheet) (ok : Admitted s) (p q : ℕ) (l : Lists) (start : List ℕ
   told h r u a b x = ran .told r u (omega arith) b x
 
   -- the way back leads where all N rounds changed something
-  pub ends : length marks ≡ 36864 → Ends (l .kinds) (l .tos) (l .froms) marks (s .n) (s .positions) rounds node
-  ends long h = let e = ran .last (full h) in led s ok p q l start w laid room marks (nodes s) node (told h) refl (e .0) (e .1) long
+  pub ends : length marks ≡ 36864 → Ends l marks (s .n) (s .positions) rounds node
+  ends long h = let e = ran .last (full h) in led s ok p q l start laid marks (nodes s) node (told h) refl (e .0) (e .1) long
 
   -- THEOREM: what is written is the outcome
   pub settles : (plan₀ circuit₀ : List ℕ) → nodes s * 4 ≤ length circuit₀ → (a : Answer) (plan circuit : List ℕ)
-      → Finishes (l .kinds) (l .tos) (l .froms) marks (s .n) (s .positions) rounds node times plan₀ circuit₀ a plan circuit → Settles s p q plan₀ circuit₀ a plan circuit
+      → Finishes l marks (s .n) (s .positions) rounds node times plan₀ circuit₀ a plan circuit → Settles s p q plan₀ circuit₀ a plan circuit
   settles plan₀ circuit₀ long (ask.accepted k) plan circuit f =
-      rw (f .0, f .3) (accepts s ok p q l start w laid rounds node times marks ran (f .1) plan₀ circuit₀ plan (f .2))
+      rw (f .0, f .3) (accepts s ok p q l start laid rounds node times marks ran (f .1) plan₀ circuit₀ plan (f .2))
   settles plan₀ circuit₀ long (ask.refuted count) plan circuit f =
       let e = ran .last (full (f .0)) in
       let t = f .1 in
-      rw (t .counted, f .2) (shows s ok p q l start w laid room marks (nodes s) node (told (f .0)) refl (e .0) (e .1) (t .path) (t .node) (t .low) (t .high) (t .found) plan₀ circuit₀ circuit long (t .turned))
+      rw (t .counted, f .2) (shows s ok p q l start laid marks (nodes s) node (told (f .0)) refl (e .0) (e .1) (t .path) (t .node) (t .low) (t .high) (t .found) plan₀ circuit₀ circuit long (t .turned))
   settles plan₀ circuit₀ long (ask.refused k) plan circuit f = absurd f
 
 -- where no refusal fits, that is the whole outcome

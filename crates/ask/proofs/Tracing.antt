@@ -21,13 +21,14 @@ use Rattle.windows.proofs.Laying.{arcs-within}
 use Rattle.windows.proofs.Limits.{nodes-few}
 use Rattle.windows.proofs.Steps.{valid-in}
 use Rattle.layout.specs.declared.Edge.{Edge}
-use Rattle.layout.specs.Records.{Item, entry, Lists, itemAt, Room, Modes}
+use Rattle.layout.specs.declared.Window.{Window as Item}
+use Rattle.layout.specs.Records.{item, itemAt, Modes}
 use Rattle.layout.specs.Edges.{byKind, edgeOf}
 use Rattle.windows.proofs.Numbers.{kind-number}
 use Rattle.rounds.specs.declared.Stand.{Stand}
 use Rattle.rounds.specs.Rounds.{Named, pick, standOf, walked, Limits, Told, Rose}
 use Rattle.rounds.proofs.Sheets.{weighed, Source, source, table-is}
-use Rattle.ask.specs.Ways.{positionOf, recordOf, departureOf, Names, markAt, way, Led}
+use Rattle.ask.specs.Ways.{positionOf, recordOf, departureOf, leaves, Marked, markAt, way, Led}
 
 -- ---- a mark, read back
 module _ (g k : ℕ) (few : k < 4608) where
@@ -38,46 +39,49 @@ module _ (g k : ℕ) (few : k < 4608) where
   record-of = omega arith
 
 -- the departure is a matter of kind, to and from alone
-departure-same : (k : ℕ) (a b : Item) (here next c d : ℕ) → a .to ≡ b .to → a .from ≡ b .from → byKind k a here next c .departure ≡ byKind k b here next d .departure
+departure-same : (k : ℕ) (a : Item) (q r here next c d : ℕ) → byKind k a q here next c .departure ≡ byKind k a r here next d .departure
 unfolding byKind
-departure-same zero a b here next c d t f = ap (λ (x : ℕ). here + x - 1) f
-departure-same (suc zero) a b here next c d t f = ap (λ (x : ℕ). here + x - 1) t
-departure-same (suc (suc zero)) a b here next c d t f = ap (λ (x : ℕ). here + x - 1) f
-departure-same (suc (suc (suc zero))) a b here next c d t f = ap (λ (x : ℕ). next + x - 1) t
-departure-same (suc (suc (suc (suc k)))) a b here next c d t f = refl
+departure-same zero a q r here next c d = refl
+departure-same (suc zero) a q r here next c d = refl
+departure-same (suc (suc zero)) a q r here next c d = refl
+departure-same (suc (suc (suc zero))) a q r here next c d = refl
+departure-same (suc (suc (suc (suc k)))) a q r here next c d = refl
 
-stand-same : (g n positions p : ℕ) → (standOf g n positions p .here ≡ standOf g n positions 0 .here) × (standOf g n positions p .next ≡ standOf g n positions 0 .next)
+stand-same : (g n positions p q : ℕ) → (standOf g n positions p q .here ≡ standOf g n positions 0 0 .here) × (standOf g n positions p q .next ≡ standOf g n positions 0 0 .next)
 unfolding standOf
-stand-same g n positions p = go (eqb (g + 1) positions)
+stand-same g n positions p q = go (eqb (g + 1) positions)
   where
-    go : (b : Bool) → (pick {A = Stand} b (record { here = g * n; next = 0; cross = p; mark = g * 4608 }) (record { here = g * n; next = (g + 1) * n; cross = 0; mark = g * 4608 }) .here
-        ≡ pick {A = Stand} b (record { here = g * n; next = 0; cross = 0; mark = g * 4608 }) (record { here = g * n; next = (g + 1) * n; cross = 0; mark = g * 4608 }) .here)
-        × (pick {A = Stand} b (record { here = g * n; next = 0; cross = p; mark = g * 4608 }) (record { here = g * n; next = (g + 1) * n; cross = 0; mark = g * 4608 }) .next
-        ≡ pick {A = Stand} b (record { here = g * n; next = 0; cross = 0; mark = g * 4608 }) (record { here = g * n; next = (g + 1) * n; cross = 0; mark = g * 4608 }) .next)
+    -- a position that is the last, and one that is not
+    last : ℕ → ℕ → Stand
+    last p q = record { here = g * n; next = 0; cross = p; q = q; mark = g * 4608 }
+
+    other : ℕ → Stand
+    other q = record { here = g * n; next = (g + 1) * n; cross = 0; q = q; mark = g * 4608 }
+
+    go : (b : Bool) → (pick {A = Stand} b (last p q) (other q) .here ≡ pick {A = Stand} b (last 0 0) (other 0) .here) × (pick {A = Stand} b (last p q) (other q) .next ≡ pick {A = Stand} b (last 0 0) (other 0) .next)
     go true = (refl, refl)
     go false = (refl, refl)
 
 -- the step that a mark names
-abbrev pub stepOf : (kinds tos froms : List ℕ) → ℕ → Step
-stepOf kinds tos froms mark =
-    record { kind = kindOf (getD kinds (recordOf mark) 0); position = positionOf mark + 1; to = getD tos (recordOf mark) 0; from = getD froms (recordOf mark) 0 }
+abbrev pub stepOf : List Item → ℕ → Step
+stepOf list mark = let a = itemAt list (recordOf mark) in record { kind = kindOf (a .kind); position = positionOf mark + 1; to = a .to; from = a .from }
 
-module _ (s : Sheet) (ok : Admitted s) (p q : ℕ) (l : Lists) (start : List ℕ) (w : ℕ) (laid : Modes (s .tables) (s .n) q l start (s .m) w) (room : Room l 4608) where
+module _ (s : Sheet) (ok : Admitted s) (p q : ℕ) (l : List Item) (start : List ℕ) (laid : Modes (s .tables) (s .n) l start (s .m)) where
   abbrev A : List Named
-  A = walked l start (s .schedule) (s .n) (s .positions) p (s .positions)
+  A = walked l start (s .schedule) (s .n) (s .positions) p q (s .positions)
 
-  abbrev leaves : ℕ → ℕ
-  leaves mark = departureOf (l .kinds) (l .tos) (l .froms) (s .n) (s .positions) mark
+  abbrev leave-node : ℕ → ℕ
+  leave-node mark = leaves l (s .n) (s .positions) mark
 
   abbrev step : ℕ → Step
-  step mark = stepOf (l .kinds) (l .tos) (l .froms) mark
+  step mark = stepOf l mark
 
   -- what a mark m tells of the node v that round r + 1 raised
   pub record Stepped (r v m : ℕ) : Type 0 where
     pub valid : Valid s (step m)
-    pub names : Names (l .kinds) (l .tos) (l .froms) (s .n) (s .positions) m
-    pub kind : number (step m .kind) ≡ getD (l .kinds) (recordOf m) 0
-    pub leave : stepArc s (step m) .departure ≡ leaves m
+    pub names : Marked l (s .n) (s .positions) m
+    pub kind : number (step m .kind) ≡ itemAt l (recordOf m) .kind
+    pub leave : stepArc s (step m) .departure ≡ leave-node m
     pub arrive : stepArc s (step m) .arrival ≡ v
     pub exact : table (arcs s) p q (suc r) v + fall p q (stepArc s (step m)) ≡ table (arcs s) p q r (stepArc s (step m) .departure) + rise p q (stepArc s (step m))
 
@@ -85,21 +89,15 @@ module _ (s : Sheet) (ok : Admitted s) (p q : ℕ) (l : Lists) (start : List ℕ
   limits = let z = ok .size in record { some-events = z .some-events; few-events = z .few-events; some-positions = z .some-positions; few-positions = z .few-positions; p-small = omega arith }
 
   -- the arc of the step that names the source's window
-  module _ (a : Named) (o : Source s ok p q l start w laid a) where
+  module _ (a : Named) (o : Source s ok p q l start laid a) where
     position : positionOf (a .mark) ≡ o .position
     position = ap positionOf (o .mark) ∙ position-of (o .position) (o .at) (o .few)
 
     record-at : recordOf (a .mark) ≡ o .at
     record-at = ap recordOf (o .mark) ∙ record-of (o .position) (o .at) (o .few)
 
-    kind-at : getD (l .kinds) (recordOf (a .mark)) 0 ≡ number (o .of .kind)
-    kind-at = ap (λ (k : ℕ). getD (l .kinds) k 0) record-at ∙ ap (λ (x : Item). x .kind) (o .stands)
-
-    to-at : getD (l .tos) (recordOf (a .mark)) 0 ≡ o .of .to
-    to-at = ap (λ (k : ℕ). getD (l .tos) k 0) record-at ∙ ap (λ (x : Item). x .to) (o .stands)
-
-    from-at : getD (l .froms) (recordOf (a .mark)) 0 ≡ o .of .from
-    from-at = ap (λ (k : ℕ). getD (l .froms) k 0) record-at ∙ ap (λ (x : Item). x .from) (o .stands)
+    item-at : itemAt l (recordOf (a .mark)) ≡ item (o .of)
+    item-at = ap (itemAt l) record-at ∙ o .stands
 
     -- the step, by the window
     pub named-step : Step
@@ -107,7 +105,7 @@ module _ (s : Sheet) (ok : Admitted s) (p q : ℕ) (l : Lists) (start : List ℕ
 
     step-is : step (a .mark) ≡ named-step
     unfolding named-step
-    step-is = rw (kind-at, to-at, from-at, position, kind-number (o .of .kind)) (rw (one (o .position)))
+    step-is = rw (item-at, position, kind-number (o .of .kind)) (rw (one (o .position)))
       where
         one : (x : ℕ) → x + 1 ≡ suc x
         one x = omega arith
@@ -127,27 +125,25 @@ module _ (s : Sheet) (ok : Admitted s) (p q : ℕ) (l : Lists) (start : List ℕ
     valid-step =
         record { from-first = omega arith; to-last = o .below; to-event = at-mode .to-event; from-event = at-mode .from-event; present = subst (λ (z : ℤ). z ≢ _) (sym (at-mode .stands)) (at-mode .present) }
 
-    names : Names (l .kinds) (l .tos) (l .froms) (s .n) (s .positions) (a .mark)
+    names : Marked l (s .n) (s .positions) (a .mark)
     names =
         record {
           limits = limits;
           some = omega (arith, o .mark);
           position = omega (arith, position, o .below);
-          kinds-long = omega (arith, record-at, o .few, room .kinds);
-          tos-long = omega (arith, record-at, o .few, room .tos);
-          froms-long = omega (arith, record-at, o .few, room .froms);
-          to-first = omega (arith, to-at, o .has .to-event .0);
-          from-first = omega (arith, from-at, o .has .from-event .0);
+          to-first = rw item-at (o .has .to-event .0);
+          from-first = rw item-at (o .has .from-event .0);
         }
 
-    leave : leaves (a .mark) ≡ a .edge .departure
+    leave : leave-node (a .mark) ≡ a .edge .departure
     unfolding departureOf
     leave =
-        let at = standOf (o .position) (s .n) (s .positions) p in
-        let e = stand-same (o .position) (s .n) (s .positions) p in
-        ap₂ (λ (g k : ℕ). edgeOf (entry (getD (l .kinds) k 0) (getD (l .tos) k 0) (getD (l .froms) k 0) 0 0) (standOf g (s .n) (s .positions) 0 .here) (standOf g (s .n) (s .positions) 0 .next) 0 .departure) position record-at
-        ∙ ap₂ (λ (x y : ℕ). byKind (getD (l .kinds) (o .at) 0) (entry (getD (l .kinds) (o .at) 0) (getD (l .tos) (o .at) 0) (getD (l .froms) (o .at) 0) 0 0) x y 0 .departure) (sym (e .0)) (sym (e .1))
-        ∙ departure-same (getD (l .kinds) (o .at) 0) (entry (getD (l .kinds) (o .at) 0) (getD (l .tos) (o .at) 0) (getD (l .froms) (o .at) 0) 0 0) (itemAt l (o .at)) (at .here) (at .next) 0 (at .cross) refl refl
+        let i = itemAt l (o .at) in
+        let at = standOf (o .position) (s .n) (s .positions) p q in
+        let e = stand-same (o .position) (s .n) (s .positions) p q in
+        ap₂ (λ (g k : ℕ). edgeOf (itemAt l k) 0 (standOf g (s .n) (s .positions) 0 0 .here) (standOf g (s .n) (s .positions) 0 0 .next) 0 .departure) position record-at
+        ∙ ap₂ (λ (x y : ℕ). byKind (i .kind) i 0 x y 0 .departure) (sym (e .0)) (sym (e .1))
+        ∙ departure-same (i .kind) i 0 (at .q) (at .here) (at .next) 0 (at .cross)
         ∙ sym (ap (λ (x : Edge). x .departure) (o .made))
 
     -- the arc's numbers are the step's
@@ -158,12 +154,12 @@ module _ (s : Sheet) (ok : Admitted s) (p q : ℕ) (l : Lists) (start : List ℕ
   pub stepped : (marks : List ℕ) (r v : ℕ) → Told A marks r v → Stepped r v (markAt marks r v)
   stepped marks r v t =
       let a = t .by in
-      let o = source s ok p q l start w laid (s .positions) (omega arith) (t .member) in
+      let o = source s ok p q l start laid (s .positions) (omega arith) (t .member) in
       let e = edge-is a o in
       rw (t .marked) (record {
         valid = subst (Valid s) (sym (step-is a o)) (valid-step a o);
         names = names a o;
-        kind = rw (kind-at a o) (ap number (kind-number (o .of .kind)));
+        kind = rw (item-at a o) (ap number (kind-number (o .of .kind)));
         leave = sym (ap (λ (x : Edge). x .departure) e) ∙ sym (leave a o);
         arrive = sym (ap (λ (x : Edge). x .arrival) e) ∙ t .arrives;
         exact = omega (
@@ -171,8 +167,8 @@ module _ (s : Sheet) (ok : Admitted s) (p q : ℕ) (l : Lists) (start : List ℕ
           t .exact,
           ap (λ (x : Edge). x .fall) e,
           ap (λ (x : Edge). x .rise) e,
-          table-is s ok p q l start w laid (suc r) v,
-          table-is s ok p q l start w laid r (a .edge .departure),
+          table-is s ok p q l start laid (suc r) v,
+          table-is s ok p q l start laid r (a .edge .departure),
           ap (λ (x : Edge). table (arcs s) p q r (x .departure)) e,
         );
       })
@@ -180,19 +176,19 @@ module _ (s : Sheet) (ok : Admitted s) (p q : ℕ) (l : Lists) (start : List ℕ
   -- ---- the way back
   module _ (marks : List ℕ) (N v : ℕ) (told : (r u : ℕ) → r < N → u < N → Rose A r u → Told A marks r u) (all : N ≡ nodes s) (below : v < N) (last : Rose A (N - 1) v) where
     abbrev W : ℕ → ℕ
-    W j = way leaves marks N v j
+    W j = way leave-node marks N v j
 
     rose : (r u : ℕ) → Rises (arcs s) p q (suc r) u → Rose A r u
-    rose r u h = omega (arith, table-is s ok p q l start w laid (suc r) u, table-is s ok p q l start w laid r u)
+    rose r u h = omega (arith, table-is s ok p q l start laid (suc r) u, table-is s ok p q l start laid r u)
 
     rises : (r u : ℕ) → Rose A r u → Rises (arcs s) p q (suc r) u
-    rises r u h = omega (arith, table-is s ok p q l start w laid (suc r) u, table-is s ok p q l start w laid r u)
+    rises r u h = omega (arith, table-is s ok p q l start laid (suc r) u, table-is s ok p q l start laid r u)
 
     -- a time that rose at a node: its step, the node that the step leaves, and that it rose the round before
     pub record Back (r u : ℕ) : Type 0 where
       pub is : Stepped r u (markAt marks r u)
-      pub inside : leaves (markAt marks r u) < N
-      pub before : Rises (arcs s) p q r (leaves (markAt marks r u))
+      pub inside : leave-node (markAt marks r u) < N
+      pub before : Rises (arcs s) p q r (leave-node (markAt marks r u))
 
     pub one-back : (r u : ℕ) → r < N → u < N → Rises (arcs s) p q (suc r) u → Back r u
     one-back r u h k rise =
@@ -209,7 +205,7 @@ module _ (s : Sheet) (ok : Admitted s) (p q : ℕ) (l : Lists) (start : List ℕ
     abbrev pub Level : ℕ → Type 0
     Level j = (W j < N) × Rises (arcs s) p q (N - j) (W j)
 
-    way-suc : (j : ℕ) → W (suc j) ≡ leaves (markAt marks (N - suc j) (W j))
+    way-suc : (j : ℕ) → W (suc j) ≡ leave-node (markAt marks (N - suc j) (W j))
     unfolding way
     way-suc j = refl
 
@@ -233,7 +229,7 @@ module _ (s : Sheet) (ok : Admitted s) (p q : ℕ) (l : Lists) (start : List ℕ
         subst (λ (u : ℕ). (u < N) × Rises (arcs s) p q (N - suc j) u) (sym (way-suc j)) (b .inside, b .before)
 
     -- THEOREM: the way back leads
-    pub led : length marks ≡ 36864 → Led (l .kinds) (l .tos) (l .froms) marks (s .n) (s .positions) N v
+    pub led : length marks ≡ 36864 → Led l marks (s .n) (s .positions) N v
     led long =
         record {
           few = omega (arith, nodes-few s ok);
@@ -249,8 +245,8 @@ module _ (s : Sheet) (ok : Admitted s) (p q : ℕ) (l : Lists) (start : List ℕ
         again : (k : ℕ) → k < N → N - suc (N - suc k) ≡ k
         again k h = omega arith
 
-    pub way-of : (k : ℕ) → k < N → leaves (markAt marks k (W (N - suc k))) ≡ W (N - k)
+    pub way-of : (k : ℕ) → k < N → leave-node (markAt marks k (W (N - suc k))) ≡ W (N - k)
     way-of k h = go (N - suc k) (N - k) (omega arith) (omega arith)
       where
-        go : (j m : ℕ) → m ≡ suc j → N - suc j ≡ k → leaves (markAt marks k (W j)) ≡ W m
-        go j m a b = ap (λ (x : ℕ). leaves (markAt marks x (W j))) (sym b) ∙ sym (way-suc j) ∙ ap W (sym a)
+        go : (j m : ℕ) → m ≡ suc j → N - suc j ≡ k → leave-node (markAt marks k (W j)) ≡ W m
+        go j m a b = ap (λ (x : ℕ). leave-node (markAt marks x (W j))) (sym b) ∙ sym (way-suc j) ∙ ap W (sym a)

@@ -9,6 +9,7 @@ use lib.Seq.{sets, getD-set-same, getD-set-other, drop-set-lt}
 use Rattle.rounds.specs.Rounds.{span}
 use Rattle.rounds.proofs.Folds.{span-snoc}
 use Rattle.ask.proofs.Backs.{part-length}
+use Rattle.layout.specs.declared.Window.{Window as Item}
 use Rattle.ask.specs.Ways.{quad, quads, part, Filled}
 
 pub sets-append : (xs ys l : List ℕ) (i k : ℕ) → i + length xs ≡ k → sets (sets l i xs) k ys ≡ sets l i (xs ++ ys)
@@ -22,33 +23,33 @@ four l i a b c d =
     let z : i + 3 ≡ suc (suc (suc i)) = omega arith in
     rw (x, y, z)
 
-module _ (kinds tos froms : List ℕ) where
-  pub quads-append : (xs ys : List ℕ) → quads kinds tos froms (xs ++ ys) ≡ quads kinds tos froms xs ++ quads kinds tos froms ys
+module _ (list : List Item) where
+  pub quads-append : (xs ys : List ℕ) → quads list (xs ++ ys) ≡ quads list xs ++ quads list ys
   unfolding quads
   quads-append [] ys = refl
-  quads-append (x ∷ xs) ys = ap (λ (l : List ℕ). quad kinds tos froms x ++ l) (quads-append xs ys)
+  quads-append (x ∷ xs) ys = ap (λ (l : List ℕ). quad list x ++ l) (quads-append xs ys)
 
-  pub quads-length : (xs : List ℕ) → length (quads kinds tos froms xs) ≡ length xs * 4
+  pub quads-length : (xs : List ℕ) → length (quads list xs) ≡ length xs * 4
   unfolding quads
   quads-length [] = refl
   quads-length (x ∷ xs) = omega (arith, quads-length xs)
 
-module _ (kinds tos froms path : List ℕ) (a at : ℕ) (old : List ℕ) where
-  pub write-none : old ≡ sets old (at * 4) (quads kinds tos froms (part path a 0))
+module _ (list : List Item) (path : List ℕ) (a at : ℕ) (old : List ℕ) where
+  pub write-none : old ≡ sets old (at * 4) (quads list (part path a 0))
   unfolding span quads
   write-none = refl
 
   -- one arc more, as the code counts
-  pub write-more : (j : ℕ) (out new : List ℕ) → out ≡ sets old (at * 4) (quads kinds tos froms (part path a j)) → new ≡ sets out ((at + j) * 4) (quad kinds tos froms (getD path (a + j) 0))
-      → new ≡ sets old (at * 4) (quads kinds tos froms (part path a (j + 1)))
+  pub write-more : (j : ℕ) (out new : List ℕ) → out ≡ sets old (at * 4) (quads list (part path a j)) → new ≡ sets out ((at + j) * 4) (quad list (getD path (a + j) 0))
+      → new ≡ sets old (at * 4) (quads list (part path a (j + 1)))
   unfolding quads
   write-more j out new e h =
       h
-      ∙ ap (λ (l : List ℕ). sets l ((at + j) * 4) (quad kinds tos froms (getD path (a + j) 0))) e
-      ∙ sets-append (quads kinds tos froms (part path a j)) (quad kinds tos froms (getD path (a + j) 0)) old (at * 4) ((at + j) * 4) (omega (arith, quads-length kinds tos froms (part path a j), part-length path j a))
-      ∙ ap (sets old (at * 4)) (sym (quads-append kinds tos froms (part path a j) (getD path (a + j) 0 ∷ [])))
-      ∙ ap (λ (l : List ℕ). sets old (at * 4) (quads kinds tos froms l)) (sym (span-snoc (λ i. getD path i 0) j a (a + j) refl))
-      ∙ ap (λ (m : ℕ). sets old (at * 4) (quads kinds tos froms (part path a m))) (omega arith)
+      ∙ ap (λ (l : List ℕ). sets l ((at + j) * 4) (quad list (getD path (a + j) 0))) e
+      ∙ sets-append (quads list (part path a j)) (quad list (getD path (a + j) 0)) old (at * 4) ((at + j) * 4) (omega (arith, quads-length list (part path a j), part-length path j a))
+      ∙ ap (sets old (at * 4)) (sym (quads-append list (part path a j) (getD path (a + j) 0 ∷ [])))
+      ∙ ap (λ (l : List ℕ). sets old (at * 4) (quads list l)) (sym (span-snoc (λ i. getD path i 0) j a (a + j) refl))
+      ∙ ap (λ (m : ℕ). sets old (at * 4) (quads list (part path a m))) (omega arith)
 
 -- ---- the plan's places: those below k are written, and all else of the first `count` and past them is as it was
 pub record Filling (times : List ℕ) (count k : ℕ) (old new : List ℕ) : Type 0 where

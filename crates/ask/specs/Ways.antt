@@ -6,7 +6,8 @@ use mathlib.Core.List.{List, [], _∷_, _++_}
 use Prim.Native.Nat.{ℕ, zero, suc, _+_, _-_, _*_, _/_, _%_, _≤_, _<_}
 use lib.ListN.{length, getD, drop}
 use lib.Seq.{sets}
-use Rattle.layout.specs.Records.{entry}
+use Rattle.layout.specs.declared.Window.{Window as Item}
+use Rattle.layout.specs.Records.{itemAt}
 use Rattle.layout.specs.Edges.{edgeOf}
 use Rattle.rounds.specs.Rounds.{standOf, span, Limits}
 
@@ -17,31 +18,30 @@ positionOf mark = (mark - 1) / 4608
 abbrev pub recordOf : ℕ → ℕ
 recordOf mark = (mark - 1) % 4608
 
--- the node that the marked arc leaves
-unfoldable pub departureOf : (kinds tos froms : List ℕ) → ℕ → ℕ → ℕ → ℕ
-departureOf kinds tos froms n positions mark =
-    let k = recordOf mark in
-    let at = standOf (positionOf mark) n positions 0 in
-    edgeOf (entry (getD kinds k 0) (getD tos k 0) (getD froms k 0) 0 0) (at .here) (at .next) 0 .departure
+-- the node that the marked arc leaves, which is that of the record a
+unfoldable pub departureOf : Item → ℕ → ℕ → ℕ → ℕ
+departureOf a n positions mark =
+    let at = standOf (positionOf mark) n positions 0 0 in
+    edgeOf a 0 (at .here) (at .next) 0 .departure
 
--- the mark names a record at a position
-pub record Names (kinds tos froms : List ℕ) (n positions mark : ℕ) : Type 0 where
+abbrev pub leaves : List Item → ℕ → ℕ → ℕ → ℕ
+leaves list n positions mark = departureOf (itemAt list (recordOf mark)) n positions mark
+
+-- the mark names a position, and the record there is between events
+pub record Names (a : Item) (n positions mark : ℕ) : Type 0 where
   pub limits : Limits n positions 0
   pub some : 1 ≤ mark
   pub position : positionOf mark < positions
-  pub kinds-long : recordOf mark < length kinds
-  pub tos-long : recordOf mark < length tos
-  pub froms-long : recordOf mark < length froms
-  pub to-first : 1 ≤ getD tos (recordOf mark) 0
-  pub from-first : 1 ≤ getD froms (recordOf mark) 0
+  pub to-first : 1 ≤ a .to
+  pub from-first : 1 ≤ a .from
 
--- the four numbers of the marked arc can be read and written
-pub record Shown (kinds tos froms : List ℕ) (mark : ℕ) : Type 0 where
+abbrev pub Marked : List Item → ℕ → ℕ → ℕ → Type 0
+Marked list n positions mark = Names (itemAt list (recordOf mark)) n positions mark
+
+-- the four numbers of the marked arc can be written
+pub record Shown (mark : ℕ) : Type 0 where
   pub some : 1 ≤ mark
   pub position : positionOf mark < 16
-  pub kinds-long : recordOf mark < length kinds
-  pub tos-long : recordOf mark < length tos
-  pub froms-long : recordOf mark < length froms
 
 -- the mark of u in row r
 abbrev pub markAt : List ℕ → ℕ → ℕ → ℕ
@@ -53,15 +53,15 @@ way source marks N v zero = v
 way source marks N v (suc j) = source (markAt marks (N - suc j) (way source marks N v j))
 
 -- the way back stays among N nodes
-pub record Led (kinds tos froms marks : List ℕ) (n positions N v : ℕ) : Type 0 where
+pub record Led (list : List Item) (marks : List ℕ) (n positions N v : ℕ) : Type 0 where
   pub few : N ≤ 192
   pub long : length marks ≡ 36864
-  pub inside : (j : ℕ) → j ≤ N → way (departureOf kinds tos froms n positions) marks N v j < N
-  pub named : (j : ℕ) → j < N → Names kinds tos froms n positions (markAt marks (N - suc j) (way (departureOf kinds tos froms n positions) marks N v j))
+  pub inside : (j : ℕ) → j ≤ N → way (leaves list n positions) marks N v j < N
+  pub named : (j : ℕ) → j < N → Marked list n positions (markAt marks (N - suc j) (way (leaves list n positions) marks N v j))
 
 -- with room for it
-pub record Ready (kinds tos froms marks : List ℕ) (n positions N v : ℕ) (path node seen : List ℕ) : Type 0 where
-  pub led : Led kinds tos froms marks n positions N v
+pub record Ready (list : List Item) (marks : List ℕ) (n positions N v : ℕ) (path node seen : List ℕ) : Type 0 where
+  pub led : Led list marks n positions N v
   pub paths : N ≤ length path
   pub nodes : N < length node
   pub seens : N ≤ length seen
@@ -83,32 +83,32 @@ pub record Least (xs : List ℕ) (low high p : ℕ) : Type 0 where
   pub least : (k : ℕ) → low ≤ k → k < high → getD xs p 0 ≤ getD xs k 0
 
 -- "An arc is four numbers: kind, position, to, from."
-abbrev pub quad : (kinds tos froms : List ℕ) → ℕ → List ℕ
-quad kinds tos froms mark = getD kinds (recordOf mark) 0 ∷ (positionOf mark + 1) ∷ getD tos (recordOf mark) 0 ∷ getD froms (recordOf mark) 0 ∷ []
+abbrev pub quad : List Item → ℕ → List ℕ
+quad list mark = let a = itemAt list (recordOf mark) in a .kind ∷ (positionOf mark + 1) ∷ a .to ∷ a .from ∷ []
 
-unfoldable pub quads : (kinds tos froms : List ℕ) → List ℕ → List ℕ
-quads kinds tos froms [] = []
-quads kinds tos froms (mark ∷ rest) = quad kinds tos froms mark ++ quads kinds tos froms rest
+unfoldable pub quads : List Item → List ℕ → List ℕ
+quads list [] = []
+quads list (mark ∷ rest) = quad list mark ++ quads list rest
 
 -- m numbers of the path from a on
 abbrev pub part : List ℕ → ℕ → ℕ → List ℕ
 part path a m = span (λ i. getD path i 0) a m
 
 -- the arcs of the path from p to high, and then those from low to p, are written from the start of the circuit's buffer on
-pub record Turned (kinds tos froms path node : List ℕ) (low high : ℕ) (old new : List ℕ) : Type 0 where
+pub record Turned (list : List Item) (path node : List ℕ) (low high : ℕ) (old new : List ℕ) : Type 0 where
   pub p : ℕ
   pub least : Least node low high p
-  pub written : new ≡ sets (sets old (0 * 4) (quads kinds tos froms (part path p (high - p)))) ((high - p) * 4) (quads kinds tos froms (part path low (p - low)))
+  pub written : new ≡ sets (sets old (0 * 4) (quads list (part path p (high - p)))) ((high - p) * 4) (quads list (part path low (p - low)))
 
 -- count arcs, which a closed way back gave
-pub record Traced (kinds tos froms marks : List ℕ) (n positions N v : ℕ) (old new : List ℕ) (count : ℕ) : Type 0 where
+pub record Traced (list : List Item) (marks : List ℕ) (n positions N v : ℕ) (old new : List ℕ) (count : ℕ) : Type 0 where
   pub path : List ℕ
   pub node : List ℕ
   pub low : ℕ
   pub high : ℕ
-  pub found : Found (departureOf kinds tos froms n positions) marks N v path node low high
+  pub found : Found (leaves list n positions) marks N v path node low high
   pub counted : count ≡ high - low
-  pub turned : Turned kinds tos froms path node low high old new
+  pub turned : Turned list path node low high old new
 
 -- the first `count` places are those of the times, and the rest stays
 pub record Filled (times : List ℕ) (count : ℕ) (old new : List ℕ) : Type 0 where

@@ -4,13 +4,12 @@
 ghost use mathlib.Core.Path.{_≡_};
 ghost use mathlib.Core.List.{[], _∷_};
 ghost use Prim.Native.Nat.{ℕ, _+_, _-_, _*_, _≤_, _<_};
-ghost use lib.ListN.{length, getD, drop};
+ghost use lib.ListN.{length, getD};
 ghost use lib.Seq.{sets};
 ghost use Rattle.tables.specs.Sheets.{sheet};
-ghost use Rattle.ask.specs.Ways.{departureOf, Names, Shown, Ready, Led, Found, Least, quads, part, Turned, Traced, Filled};
+ghost use Rattle.ask.specs.Ways.{recordOf, departureOf, leaves, Names, Shown, Ready, Led, Found, Least, quads, part, Turned, Traced, Filled};
 ghost use mathlib.Core.Bool.{_&&_};
 ghost use lib.Dec.{leb};
-ghost use Rattle.layout.specs.Records.{lists, Room};
 ghost use Rattle.ask.specs.Ask.{timed, askRefusal, Outcome};
 ghost use Rattle.ask.specs.Answers.{answer, Ends, Finishes, Settles};
 
@@ -21,15 +20,22 @@ pub enum Asked {
     Refused { number: u8 },
 }
 
-// The node that the marked arc leaves. A mark is one more than position·4608 + record, the position counted from 0.
-fn departure(kind: &[u8], to: &[u8], from: &[u8], n: usize, positions: usize, mark: u32) -> usize
-    requires { ⌜ Names (now kind) (now to) (now from) n positions mark ⌝ }
-    ensures { λ r. ⌜ r ≡ departureOf (now (kind .entry)) (now (to .entry)) (now (from .entry)) n positions mark ⌝ }
+// The record that a mark names. A mark is one more than position·4608 + record, the position counted from 0.
+fn record_of(mark: u32) -> usize
+    requires { ⌜ 1 ≤ mark ⌝ }
+    ensures { λ r. ⌜ (r ≡ recordOf mark) × (r < 4608) ⌝ }
 {
-    let number = mark as usize - 1;
-    let k = number % rounds::RECORDS;
-    let at = rounds::stand_at(number / rounds::RECORDS, n, positions, 0);
-    let arc = layout::edge_of(kind[k], to[k], from[k], 0, 0, at.here, at.next, 0);
+    (mark as usize - 1) % rounds::RECORDS
+}
+
+// The node that the marked arc leaves, which is that of the record w.
+fn departure(w: layout::Window, n: usize, positions: usize, mark: u32) -> usize
+    requires { ⌜ Names w n positions mark ⌝ }
+    ensures { λ r. ⌜ r ≡ departureOf w n positions mark ⌝ }
+{
+    let position = (mark as usize - 1) / rounds::RECORDS;
+    let at = rounds::stand_at(position, n, positions, 0, 0);
+    let arc = layout::edge_of(w, 0, at.here, at.next, 0);
     arc.departure
 }
 
@@ -41,9 +47,7 @@ struct Stretch {
 
 // Goes back from the node v, which the last round raised, by the arc that each mark names, one row at a time, until a node is met again.
 fn back(
-    kind: &[u8],
-    to: &[u8],
-    from: &[u8],
+    list: [layout::Window; 4608],
     n: usize,
     positions: usize,
     marks: &[u32],
@@ -53,8 +57,8 @@ fn back(
     node: &mut [u8],
     seen: &mut [u8],
 ) -> Stretch
-    requires { ⌜ Ready (now kind) (now to) (now from) (now marks) n positions nodes v (now path) (now node) (now seen) ⌝ }
-    ensures { λ r. ⌜ Found (departureOf (now (kind .entry)) (now (to .entry)) (now (from .entry)) n positions) (now (marks .entry)) nodes v (now (path .exit)) (now (node .exit)) (r .low) (r .high) ⌝ }
+    requires { ⌜ Ready list (now marks) n positions nodes v (now path) (now node) (now seen) ⌝ }
+    ensures { λ r. ⌜ Found (leaves list n positions) (now (marks .entry)) nodes v (now (path .exit)) (now (node .exit)) (r .low) (r .high) ⌝ }
 {
     node[nodes] = v as u8;
     let mut r = nodes;
@@ -64,7 +68,8 @@ fn back(
         r -= 1;
         let mark = marks[r * rounds::NODES + u];
         path[r] = mark;
-        u = departure(kind, to, from, n, positions, mark);
+        let k = record_of(mark);
+        u = departure(list[k], n, positions, mark);
         node[r] = u as u8;
     }
     let high = seen[u] as usize - 1;
@@ -88,64 +93,58 @@ fn least(node: &[u8], low: usize, high: usize) -> usize
 }
 
 // Writes the four numbers of an arc from a place of the circuit's buffer on.
-fn write_arc(circuit: &mut [u8], at: usize, kind: u8, position: u8, to: u8, from: u8)
+fn write_arc(circuit: &mut [u8], at: usize, w: layout::Window, position: u8)
     requires { ⌜ at + 4 ≤ length (now circuit) ⌝ }
-    ensures { λ _. ⌜ now (circuit .exit) ≡ sets (now (circuit .entry)) at (kind ∷ position ∷ to ∷ from ∷ []) ⌝ }
+    ensures { λ _. ⌜ now (circuit .exit) ≡ sets (now (circuit .entry)) at (w .kind ∷ position ∷ w .to ∷ w .from ∷ []) ⌝ }
 {
-    circuit[at] = kind;
+    circuit[at] = w.kind;
     circuit[at + 1] = position;
-    circuit[at + 2] = to;
-    circuit[at + 3] = from;
+    circuit[at + 2] = w.to;
+    circuit[at + 3] = w.from;
 }
 
 // Writes the arcs that m marks of the path name, from `a` on, as arcs of the circuit from `at` on.
 fn write(
-    kind: &[u8],
-    to: &[u8],
-    from: &[u8],
+    list: [layout::Window; 4608],
     path: &[u32],
     a: usize,
     m: usize,
     circuit: &mut [u8],
     at: usize,
 )
-    requires { ⌜ (a + m ≤ length (now path)) × ((at + m) * 4 ≤ length (now circuit)) × (at + m ≤ 192) × ((i : ℕ) → a ≤ i → i < a + m → Shown (now kind) (now to) (now from) (getD (now path) i 0)) ⌝ }
-    ensures { λ _. ⌜ now (circuit .exit) ≡ sets (now (circuit .entry)) (at * 4) (quads (now (kind .entry)) (now (to .entry)) (now (from .entry)) (part (now (path .entry)) a m)) ⌝ }
+    requires { ⌜ (a + m ≤ length (now path)) × ((at + m) * 4 ≤ length (now circuit)) × (at + m ≤ 192) × ((i : ℕ) → a ≤ i → i < a + m → Shown (getD (now path) i 0)) ⌝ }
+    ensures { λ _. ⌜ now (circuit .exit) ≡ sets (now (circuit .entry)) (at * 4) (quads list (part (now (path .entry)) a m)) ⌝ }
 {
     let mut j: usize = 0;
     while j < m {
-        let number = path[a + j] as usize - 1;
-        let k = number % rounds::RECORDS;
-        let position = (number / rounds::RECORDS + 1) as u8;
-        write_arc(circuit, (at + j) * 4, kind[k], position, to[k], from[k]);
+        let mark = path[a + j];
+        let k = record_of(mark);
+        let position = ((mark as usize - 1) / rounds::RECORDS + 1) as u8;
+        write_arc(circuit, (at + j) * 4, list[k], position);
         j += 1;
     }
 }
 
 // Writes the closed stretch of a path as a circuit, beginning with the arc that leaves the smallest node.
 fn turn(
-    kind: &[u8],
-    to: &[u8],
-    from: &[u8],
+    list: [layout::Window; 4608],
     path: &[u32],
     node: &[u8],
     low: usize,
     high: usize,
     circuit: &mut [u8],
 )
-    requires { ⌜ (low < high) × (high ≤ 192) × (high ≤ length (now path)) × (high ≤ length (now node)) × ((high - low) * 4 ≤ length (now circuit)) × ((i : ℕ) → low ≤ i → i < high → Shown (now kind) (now to) (now from) (getD (now path) i 0)) ⌝ }
-    ensures { λ _. ⌜ Turned (now (kind .entry)) (now (to .entry)) (now (from .entry)) (now (path .entry)) (now (node .entry)) low high (now (circuit .entry)) (now (circuit .exit)) ⌝ }
+    requires { ⌜ (low < high) × (high ≤ 192) × (high ≤ length (now path)) × (high ≤ length (now node)) × ((high - low) * 4 ≤ length (now circuit)) × ((i : ℕ) → low ≤ i → i < high → Shown (getD (now path) i 0)) ⌝ }
+    ensures { λ _. ⌜ Turned list (now (path .entry)) (now (node .entry)) low high (now (circuit .entry)) (now (circuit .exit)) ⌝ }
 {
     let p = least(node, low, high);
-    write(kind, to, from, path, p, high - p, circuit, 0);
-    write(kind, to, from, path, low, p - low, circuit, high - p);
+    write(list, path, p, high - p, circuit, 0);
+    write(list, path, low, p - low, circuit, high - p);
 }
 
 // Writes a circuit from the marks of the rounds into the buffer, and gives the count of its arcs.
 fn refute(
-    kind: &[u8],
-    to: &[u8],
-    from: &[u8],
+    list: [layout::Window; 4608],
     n: usize,
     positions: usize,
     marks: &[u32],
@@ -153,16 +152,14 @@ fn refute(
     v: usize,
     circuit: &mut [u8],
 ) -> usize
-    requires { ⌜ Led (now kind) (now to) (now from) (now marks) n positions nodes v × (nodes * 4 ≤ length (now circuit)) ⌝ }
-    ensures { λ r. ⌜ Traced (now (kind .entry)) (now (to .entry)) (now (from .entry)) (now (marks .entry)) n positions nodes v (now (circuit .entry)) (now (circuit .exit)) r ⌝ }
+    requires { ⌜ Led list (now marks) n positions nodes v × (nodes * 4 ≤ length (now circuit)) ⌝ }
+    ensures { λ r. ⌜ Traced list (now (marks .entry)) n positions nodes v (now (circuit .entry)) (now (circuit .exit)) r ⌝ }
 {
     let mut path = [0u32; 192];
     let mut node = [0u8; 193];
     let mut seen = [0u8; 192];
     let met = back(
-        kind,
-        to,
-        from,
+        list,
         n,
         positions,
         marks,
@@ -174,7 +171,7 @@ fn refute(
     );
     let low = met.low;
     let high = met.high;
-    turn(kind, to, from, &path, &node, low, high, circuit);
+    turn(list, &path, &node, low, high, circuit);
     high - low
 }
 
@@ -196,9 +193,7 @@ const MOST_P: u64 = 1000000000;
 
 // Writes what the rounds came to: their table as the plan, or the circuit that their marks lead to.
 fn finish(
-    kind: &[u8],
-    to: &[u8],
-    from: &[u8],
+    list: [layout::Window; 4608],
     n: usize,
     positions: usize,
     marks: &[u32],
@@ -206,8 +201,8 @@ fn finish(
     plan: &mut [u64],
     circuit: &mut [u8],
 ) -> Asked
-    requires { ⌜ Ends (now kind) (now to) (now from) (now marks) n positions (ended .rounds) (ended .node) × (positions * n ≤ 192) × (positions * n ≤ length (now plan)) × (positions * n * 4 ≤ length (now circuit)) ⌝ }
-    ensures { λ r. ⌜ Finishes (now (kind .entry)) (now (to .entry)) (now (from .entry)) (now (marks .entry)) n positions (ended .rounds) (ended .node) (ended .times) (now (plan .entry)) (now (circuit .entry)) (answer r) (now (plan .exit)) (now (circuit .exit)) ⌝ }
+    requires { ⌜ Ends list (now marks) n positions (ended .rounds) (ended .node) × (positions * n ≤ 192) × (positions * n ≤ length (now plan)) × (positions * n * 4 ≤ length (now circuit)) ⌝ }
+    ensures { λ r. ⌜ Finishes list (now (marks .entry)) n positions (ended .rounds) (ended .node) (ended .times) (now (plan .entry)) (now (circuit .entry)) (answer r) (now (plan .exit)) (now (circuit .exit)) ⌝ }
 {
     let nodes = positions * n;
     let rounds = ended.rounds;
@@ -219,7 +214,7 @@ fn finish(
             rounds: rounds as u64,
         };
     }
-    let arcs = refute(kind, to, from, n, positions, marks, nodes, node, circuit);
+    let arcs = refute(list, n, positions, marks, nodes, node, circuit);
     Asked::Refuted { arcs: arcs as u64 }
 }
 
@@ -234,37 +229,28 @@ fn solve(
     q: u64,
     plan: &mut [u64],
     circuit: &mut [u8],
-    kind: &mut [u8],
-    to: &mut [u8],
-    from: &mut [u8],
-    up: &mut [u64],
-    down: &mut [u64],
-    start: &mut [usize],
     marks: &mut [u32],
 ) -> Asked
     requires { ⌜ askRefusal (sheet n m positions (now tables) (now schedule)) p q (now plan) (now circuit) ≡ 0 ⌝ }
-    requires { ⌜ Room (lists (now kind) (now to) (now from) (now up) (now down)) 4608 × (length (now start) ≡ 9) × (length (now marks) ≡ 36864) ⌝ }
+    requires { ⌜ length (now marks) ≡ 36864 ⌝ }
     ensures { λ r. ⌜ Settles (sheet n m positions (now (tables .entry)) (now (schedule .entry))) p q (now (plan .entry)) (now (circuit .entry)) (answer r) (now (plan .exit)) (now (circuit .exit)) ⌝ }
 {
-    layout::lay_out(tables, q, n, m, kind, to, from, up, down, start);
-    let ended = rounds::run(
-        kind,
-        to,
-        from,
-        up,
-        down,
-        start,
-        schedule,
-        n,
-        positions,
-        p,
-        marks,
-    );
-    finish(kind, to, from, n, positions, marks, ended, plan, circuit)
+    let listed = layout::lay_out(tables, n, m);
+    let list = listed.windows;
+    let start = listed.start;
+    let job = rounds::Job {
+        n: n,
+        positions: positions,
+        p: p,
+        q: q,
+        start: start,
+    };
+    let ended = rounds::run(list, job, schedule, marks);
+    finish(list, n, positions, marks, ended, plan, circuit)
 }
 
-// Makes the room of the work's own: the list of records, the modes' starts and a row of marks for each round. These are 235,080 bytes
-// of stack; with the tables of the rounds and the way back a call has under 242,000, and may have 524,288.
+// Makes the room of the work's own for a row of marks for each round. With the list, the tables of the rounds and the way back a call has
+// under 262,000 bytes of stack, and may have 524,288.
 fn decide(
     n: usize,
     m: usize,
@@ -279,12 +265,6 @@ fn decide(
     requires { ⌜ askRefusal (sheet n m positions (now tables) (now schedule)) p q (now plan) (now circuit) ≡ 0 ⌝ }
     ensures { λ r. ⌜ Settles (sheet n m positions (now (tables .entry)) (now (schedule .entry))) p q (now (plan .entry)) (now (circuit .entry)) (answer r) (now (plan .exit)) (now (circuit .exit)) ⌝ }
 {
-    let mut kind = [0u8; 4608];
-    let mut to = [0u8; 4608];
-    let mut from = [0u8; 4608];
-    let mut up = [0u64; 4608];
-    let mut down = [0u64; 4608];
-    let mut start = [0usize; 9];
     let mut marks = [0u32; 36864];
     solve(
         n,
@@ -296,12 +276,6 @@ fn decide(
         q,
         plan,
         circuit,
-        &mut kind,
-        &mut to,
-        &mut from,
-        &mut up,
-        &mut down,
-        &mut start,
         &mut marks,
     )
 }

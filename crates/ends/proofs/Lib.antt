@@ -1,4 +1,3 @@
 pub mod Unique
 pub mod Found
-pub mod Held
 pub mod Finishing

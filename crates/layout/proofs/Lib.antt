@@ -1,3 +1,3 @@
 pub mod Laying
-pub mod Modes
+pub mod Counting
 pub mod Windows

@@ -1,14 +1,26 @@
 // The list of records: the windows present in each mode, laid out once, and the arc of one record at a position.
 // This crate knows the list and one arc; it knows no table of times and no round.
-// It renders document 01's "Arcs" and "laid out once as a list of records", as parallel slices of numbers.
+// It renders document 01's "Arcs" and "laid out once as a list of records".
 ghost use mathlib.Core.Path.{_≡_};
-ghost use mathlib.Core.List.{[], _∷_};
-ghost use Prim.Native.Nat.{ℕ, _+_, _-_, _*_, _/_, _%_, _≤_, _<_};
-ghost use lib.ListN.{length, getD};
-ghost use Rattle.tables.specs.Sheets.{absent};
-ghost use Rattle.windows.specs.Arcs.{up, down, unless};
-ghost use Rattle.layout.specs.Records.{entry, lists, state, added, Room, windowsIn, windowOf, Laid, Modes};
-ghost use Rattle.layout.specs.Edges.{edgeOf};
+ghost use Prim.Native.Nat.{_+_, _-_, _*_, _/_, _%_, _≤_, _<_};
+ghost use lib.ListN.{length};
+ghost use Rattle.windows.specs.Arcs.{up, down};
+ghost use Rattle.layout.specs.Records.{item, windowsIn, windowOf, laidIn, Laid, Starts, Modes};
+ghost use Rattle.layout.specs.Edges.{edge, edgeOf};
+
+// A window as a record of the list: its kind in numbers, the events "to" and "from", and its limit.
+pub struct Window {
+    pub kind: u8,
+    pub to: u8,
+    pub from: u8,
+    pub w: i32,
+}
+
+// The list, in which the records of mode t stand from start[t] on, below start[t + 1].
+pub struct Listed {
+    pub windows: [Window; 4608],
+    pub start: [usize; 9],
+}
 
 // How much a limit lies above 0, or 0.
 pub fn upper(value: i32) -> u64
@@ -28,84 +40,90 @@ pub fn lower(value: i32) -> u64
     }
 }
 
-// Puts the window at the place k of a mode's part, if the value is one, as the record w, and gives the place after it.
-fn add(
-    value: i32,
-    q: u64,
-    n: usize,
-    k: usize,
-    kind: &mut [u8],
-    to: &mut [u8],
-    from: &mut [u8],
-    up: &mut [u64],
-    down: &mut [u64],
-    w: usize,
-) -> usize
-    requires { ⌜ (0 < n) × (n ≤ 12) × (q ≤ 1000) × (k < 4 * (n * n)) × Room (lists (now kind) (now to) (now from) (now up) (now down)) (w + 1) ⌝ }
-    ensures { λ r. ⌜ state (lists (now (kind .exit)) (now (to .exit)) (now (from .exit)) (now (up .exit)) (now (down .exit))) r ≡ added q (lists (now (kind .entry)) (now (to .entry)) (now (from .entry)) (now (up .entry)) (now (down .entry))) w (unless (absent value) (windowOf n k value)) ⌝ }
+// The window with a limit at the place k of a mode's part of the tables.
+fn window_at(n: usize, k: usize, value: i32) -> Window
+    requires { ⌜ (0 < n) × (n ≤ 12) × (k < 4 * (n * n)) ⌝ }
+    ensures { λ r. ⌜ r ≡ item (windowOf n k value) ⌝ }
 {
-    if tables::is_absent(value) {
-        return w;
+    Window {
+        kind: (k / (n * n)) as u8,
+        to: (k / n % n + 1) as u8,
+        from: (k % n + 1) as u8,
+        w: value,
     }
-    kind[w] = (k / (n * n)) as u8;
-    to[w] = (k / n % n + 1) as u8;
-    from[w] = (k % n + 1) as u8;
-    up[w] = q * upper(value);
-    down[w] = q * lower(value);
-    w + 1
 }
 
-// Lays out the windows of one mode from the place s on, and gives the place after them.
-fn lay_mode(
-    part: &[i32],
-    q: u64,
-    n: usize,
-    kind: &mut [u8],
-    to: &mut [u8],
-    from: &mut [u8],
-    up: &mut [u64],
-    down: &mut [u64],
-    s: usize,
-) -> usize
-    requires { ⌜ (0 < n) × (n ≤ 12) × (q ≤ 1000) × (4 * (n * n) ≤ length (now part)) × Room (lists (now kind) (now to) (now from) (now up) (now down)) (s + 4 * (n * n)) ⌝ }
-    ensures { λ r. ⌜ Laid q (windowsIn (now (part .entry)) n (4 * (n * n))) (lists (now (kind .entry)) (now (to .entry)) (now (from .entry)) (now (up .entry)) (now (down .entry))) s (lists (now (kind .exit)) (now (to .exit)) (now (from .exit)) (now (up .exit)) (now (down .exit))) r ⌝ }
+// How many windows stand in a mode's part of the tables.
+fn count(part: &[i32], n: usize) -> usize
+    requires { ⌜ (0 < n) × (n ≤ 12) × (4 * (n * n) ≤ length (now part)) ⌝ }
+    ensures { λ r. ⌜ r ≡ length (windowsIn (now (part .entry)) n (4 * (n * n))) ⌝ }
 {
-    let m = 4 * (n * n);
-    let mut w = s;
+    let size = 4 * (n * n);
+    let mut w: usize = 0;
     let mut k: usize = 0;
-    while k < m {
-        w = add(part[k], q, n, k, kind, to, from, up, down, w);
+    while k < size {
+        if !tables::is_absent(part[k]) {
+            w += 1;
+        }
         k += 1;
     }
     w
 }
 
-// Lays out the windows of m modes, those of mode t from start[t] on, below start[t + 1]. One mode's windows are handed on as the
-// part of the tables that starts at 4t·n².
-pub fn lay_out(
-    tables: &[i32],
-    q: u64,
-    n: usize,
-    m: usize,
-    kind: &mut [u8],
-    to: &mut [u8],
-    from: &mut [u8],
-    up: &mut [u64],
-    down: &mut [u64],
-    start: &mut [usize],
-)
-    requires { ⌜ (0 < n) × (n ≤ 12) × (m ≤ 8) × (q ≤ 1000) × (m * (4 * (n * n)) ≤ length (now tables)) × (m < length (now start)) × Room (lists (now kind) (now to) (now from) (now up) (now down)) (m * (4 * (n * n))) ⌝ }
-    ensures { λ _. ⌜ Modes (now (tables .entry)) n q (lists (now (kind .exit)) (now (to .exit)) (now (from .exit)) (now (up .exit)) (now (down .exit))) (now (start .exit)) m (getD (now (start .exit)) m 0) ⌝ }
+// Where the records of each of m modes begin, and after the last where they end. One mode's windows are handed on as the part of the
+// tables that starts at 4t·n².
+fn starts(tables: &[i32], n: usize, m: usize) -> [usize; 9]
+    requires { ⌜ (0 < n) × (n ≤ 12) × (m ≤ 8) × (m * (4 * (n * n)) ≤ length (now tables)) ⌝ }
+    ensures { λ r. ⌜ Starts (now (tables .entry)) n r m ⌝ }
 {
-    start[0] = 0;
     let size = 4 * (n * n);
-    let mut w: usize = 0;
+    let mut start = [0usize; 9];
     let mut t: usize = 0;
     while t < m {
         let a = t * size;
-        w = lay_mode(&tables[a..], q, n, kind, to, from, up, down, w);
-        start[t + 1] = w;
+        let windows = count(&tables[a..], n);
+        start[t + 1] = start[t] + windows;
         t += 1;
+    }
+    start
+}
+
+// The windows of m modes, one after the other.
+fn lay(tables: &[i32], n: usize, m: usize) -> [Window; 4608]
+    requires { ⌜ (0 < n) × (n ≤ 12) × (m ≤ 8) × (m * (4 * (n * n)) ≤ length (now tables)) ⌝ }
+    ensures { λ r. ⌜ Laid (laidIn (now (tables .entry)) n (m * (4 * (n * n)))) r ⌝ }
+{
+    let size = 4 * (n * n);
+    let none = Window {
+        kind: 0,
+        to: 0,
+        from: 0,
+        w: 0,
+    };
+    let mut list = [none; 4608];
+    let mut w: usize = 0;
+    let mut j: usize = 0;
+    while j < m * size {
+        let value = tables[j];
+        if !tables::is_absent(value) {
+            list[w] = window_at(n, j % size, value);
+            w += 1;
+        }
+        j += 1;
+    }
+    list
+}
+
+// Lays out the windows of m modes.
+pub fn lay_out(tables: &[i32], n: usize, m: usize) -> Listed
+    requires { ⌜ (0 < n) × (n ≤ 12) × (m ≤ 8) × (m * (4 * (n * n)) ≤ length (now tables)) ⌝ }
+    ensures { λ r. ⌜ Modes (now (tables .entry)) n (r .windows) (r .start) m ⌝ }
+{
+    let start = starts(tables, n, m);
+    let windows = lay(tables, n, m);
+    Listed {
+        windows: windows,
+        start: start,
     }
 }
 
@@ -117,55 +135,35 @@ pub struct Edge {
     pub fall: u64,
 }
 
-// The arc of a record. The events of its position stand from `here` on, those of the next position from `next` on, and to cross from
-// the one to the other costs `cross`.
-pub fn edge_of(
-    kind: u8,
-    to: u8,
-    from: u8,
-    up: u64,
-    down: u64,
-    here: usize,
-    next: usize,
-    cross: u64,
-) -> Edge
-    requires { ⌜ (1 ≤ to) × (1 ≤ from) × (here < 4096) × (next < 4096) × (up < 4294967296000) × (down < 4294967296000) × (cross < 4294967296000) ⌝ }
-    ensures { λ r. ⌜ r ≡ edgeOf (entry kind to from up down) here next cross ⌝ }
+fn between(departure: usize, arrival: usize, rise: u64, fall: u64) -> Edge
+    ensures { λ r. ⌜ r ≡ edge departure arrival rise fall ⌝ }
 {
-    let to_here = here + to as usize - 1;
-    let from_here = here + from as usize - 1;
-    let to_next = next + to as usize - 1;
+    Edge {
+        departure: departure,
+        arrival: arrival,
+        rise: rise,
+        fall: fall,
+    }
+}
+
+// The arc of a record, in steps of 1/q. The events of its position stand from `here` on, those of the next position from `next` on, and
+// to cross from the one to the other costs `cross`.
+pub fn edge_of(w: Window, q: u64, here: usize, next: usize, cross: u64) -> Edge
+    requires { ⌜ (1 ≤ w .to) × (1 ≤ w .from) × (q ≤ 1000) × (here < 4096) × (next < 4096) × (cross < 4294967296000) ⌝ }
+    ensures { λ r. ⌜ r ≡ edgeOf w q here next cross ⌝ }
+{
+    let up = q * upper(w.w);
+    let down = q * lower(w.w);
+    let to_here = here + w.to as usize - 1;
+    let from_here = here + w.from as usize - 1;
+    let to_next = next + w.to as usize - 1;
     let crossed = down + cross;
+    let kind = w.kind;
     match kind {
-        0 => Edge {
-            departure: from_here,
-            arrival: to_here,
-            rise: up,
-            fall: down,
-        },
-        1 => Edge {
-            departure: to_here,
-            arrival: from_here,
-            rise: down,
-            fall: up,
-        },
-        2 => Edge {
-            departure: from_here,
-            arrival: to_next,
-            rise: up,
-            fall: crossed,
-        },
-        3 => Edge {
-            departure: to_next,
-            arrival: from_here,
-            rise: crossed,
-            fall: up,
-        },
-        4..=255 => Edge {
-            departure: 0,
-            arrival: 0,
-            rise: 0,
-            fall: 0,
-        },
+        0 => between(from_here, to_here, up, down),
+        1 => between(to_here, from_here, down, up),
+        2 => between(from_here, to_next, up, crossed),
+        3 => between(to_next, from_here, crossed, up),
+        4..=255 => between(0, 0, 0, 0),
     }
 }

@@ -1,7 +1,3 @@
-pub mod Lengths
-pub mod Spelled
-pub mod Turns
-pub mod Texts
 pub mod Telling
 pub mod Short
 pub mod Whole

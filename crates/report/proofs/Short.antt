@@ -26,9 +26,9 @@ use Rattle.ask.specs.Ask.{Earliest}
 use Rattle.ask.proofs.Unique.{plan-table}
 use Rattle.ask.proofs.Bounds.{table-small}
 use Rattle.ends.specs.Ends.{Holds}
-use Rattle.report.specs.Lines.{low-word, high-word, first-word, second-word, refused-word, none-word, ends-word, plan-word, following, line, fraction, highSpelled, arcLine, circuitLines, highLines, numbersLine, timesAt, planLines}
+use Rattle.lines.specs.Lines.{low-word, high-word, first-word, second-word, refused-word, none-word, ends-word, plan-word, following, line, fraction, highSpelled, arcLine, circuitLines, highLines, numbersLine, timesAt, planLines}
 use Rattle.report.specs.Report.{TellsEnds, TellsNone, Tells, room}
-use Rattle.report.proofs.Lengths.{line-one, line-two, line-three, line-four, fraction-most, high-most, following-length}
+use Rattle.lines.proofs.Lengths.{line-one, line-two, line-three, line-four, fraction-most, high-most, following-length}
 use Rattle.report.proofs.Telling.{few-192, low-ready}
 
 -- ---- the lines of a circuit

@@ -36,12 +36,12 @@ use Rattle.ends.specs.Answers as ended-answers
 use Rattle.ends.specs.declared.Ended.{Ended}
 use Rattle.ends.specs.declared.Ended.the-variants as ended
 use Rattle.ends.specs.declared.High as declared-high
-use Rattle.ends.proofs.Held.{count-few}
-use Rattle.report.specs.Lines.{low-word, none-word, first-word, second-word, line, circuitLines, highLines, planLines}
-use Rattle.report.specs.Held.{planText, endsText, foundText, noneText}
-use Rattle.report.specs.Report.{TellsEnds, TellsNone, Tells, refusedLine}
+use Rattle.weights.proofs.Held.{count-few}
+use Rattle.lines.specs.Lines.{low-word, none-word, first-word, second-word, line, circuitLines, highLines, planLines, refusedLine}
+use Rattle.lines.specs.Held.{planText, endsText, foundText, noneText}
+use Rattle.report.specs.Report.{TellsEnds, TellsNone, Tells}
 use Rattle.report.specs.Told.{Stands, Low, PlanStands, Found}
-use Rattle.report.proofs.Spelled.{circuit-is, high-is, plan-is}
+use Rattle.lines.proofs.Spelled.{circuit-is, high-is, plan-is}
 
 module _ (s : Sheet) (admitted : refusal s ≡ 0) where
   ok : Admitted s

@@ -24,7 +24,7 @@ use Rattle.windows.proofs.Listed.{each-more}
 use Rattle.windows.proofs.Laying.{node-inside}
 use Rattle.ask.specs.Ask.{Earliest}
 use Rattle.ask.proofs.Unique.{plan-table}
-use Rattle.report.specs.Lines.{plan-word, line, numbersLine, timesAt, planLines}
+use Rattle.lines.specs.Lines.{plan-word, line, numbersLine, timesAt, planLines}
 use Rattle.report.specs.Report.{TellsEnds, TellsNone, Tells, judged, Reports, room, Answer, number, Outcome}
 use Rattle.report.specs.Report as report
 
@@ -107,3 +107,8 @@ outcome-same bytes out₀ (report.refused k) (report.refused j) out out′ x y =
 
 pub refused-same : (bytes out₀ : List ℕ) (k j : ℕ) (out out′ : List ℕ) → Outcome bytes out₀ (report.refused k) out → Outcome bytes out₀ (report.refused j) out′ → out ≡ out′
 refused-same bytes out₀ k j out out′ x y = x .2 ∙ sym (y .2)
+
+-- THEOREM: two texts that were written agree
+pub written-same : (bytes out₀ : List ℕ) (c d : ℕ) (out out′ : List ℕ) (x : Outcome bytes out₀ (report.written c) out) (y : Outcome bytes out₀ (report.written d) out′)
+    → Agree (sheetIn (take judged bytes)) (x .1) (y .1) (x .2) (y .2)
+written-same bytes out₀ c d out out′ x y = reports-same bytes (x .1) (y .1) (x .2) (y .2)

@@ -1,4 +1,2 @@
-pub mod Lines
-pub mod Held
 pub mod Report
 pub mod Told

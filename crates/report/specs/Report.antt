@@ -4,7 +4,6 @@ use mathlib.Core.Logic.{_⊎_}
 use mathlib.Core.List.{List, [], _∷_, _++_}
 use Prim.Native.Nat.{ℕ, zero, suc, _≤_, _<_}
 use lib.ListN.{length, take, drop}
-use Rattle.text.specs.Text.{decimal}
 use Rattle.theory.specs.Arcs.{Rounds}
 use Rattle.theory.specs.Ends.{High}
 use Rattle.tables.specs.Sheets.{Sheet}
@@ -13,7 +12,7 @@ use Rattle.sheet.specs.File as file
 use Rattle.windows.specs.Arcs.{nodes, arcs}
 use Rattle.ask.specs.Ask.{Earliest}
 use Rattle.ends.specs.Ends.{Finds, Lacks}
-use Rattle.report.specs.Lines.{ends-word, low-word, none-word, first-word, second-word, refused-word, line, fraction, highSpelled, circuitLines, highLines, planLines}
+use Rattle.lines.specs.Lines.{ends-word, low-word, none-word, first-word, second-word, line, fraction, highSpelled, circuitLines, highLines, planLines, refusedLine}
 
 module _ (s : Sheet) where
   -- Ends found: the ends and their circuits, which are all that two empty buffers would then hold, and the earliest plan at low with its rounds.
@@ -40,10 +39,6 @@ module _ (s : Sheet) where
     pub second : List ℕ
     pub lacks : Lacks s [] [] count₁ count₂ first second
     pub text-is : text ≡ line none-word [] ++ circuitLines first-word (lacks .first-holds .steps) ++ circuitLines second-word (lacks .second-holds .steps)
-
--- "A refusal prints "refused" and the number."
-abbrev pub refusedLine : ℕ → List ℕ
-refusedLine k = line refused-word (decimal k ∷ [])
 
 -- the text, by what the file was read as
 abbrev pub Tells : Part Sheet → List ℕ → Type 0

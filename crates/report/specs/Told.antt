@@ -11,7 +11,7 @@ use Rattle.windows.specs.Inequalities.{Runs}
 use Rattle.windows.specs.Arcs.{nodes, arcs}
 use Rattle.ask.specs.Ask.{Earliest}
 use Rattle.ends.specs.Ends.{Finds}
-use Rattle.report.specs.Lines.{planLines}
+use Rattle.lines.specs.Lines.{planLines}
 use Rattle.report.specs.Report as report
 use Rattle.report.specs.declared.Told.{Told}
 use Rattle.report.specs.declared.Told.the-variants as told

@@ -1,12 +1,12 @@
 // From a file's bytes to the text of its report: each answer is asked for in room of the work's own, and handed to its lines.
 // This file knows which call answers what; it knows no spelling.
-use crate::lines::put_found;
-use crate::lines::put_none;
-use crate::lines::put_plan;
-use crate::lines::put_refused;
 use ask::Asked;
 use ends::Ended;
 use ends::High;
+use lines::put_found;
+use lines::put_none;
+use lines::put_plan;
+use lines::put_refused;
 use sheet::Read;
 ghost use mathlib.Core.Path.{_≡_};
 ghost use mathlib.Core.Logic.{_⊎_};

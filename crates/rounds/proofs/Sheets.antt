@@ -6,7 +6,7 @@ use mathlib.Core.Bool.{Bool, true, false}
 use mathlib.Core.List.{List, [], _∷_, _++_, map, List·Memᴰ, List·Memᴰ·head, List·Memᴰ·tail, List·Memᴰ·not-nil, List·Memᴰ·append-cases}
 use Prim.Native.Nat.{ℕ, zero, suc, pred, _+_, _-_, _*_, _/_, _%_, _≤_, _<_, max}
 use native.Mathlib.Omega.{arith}
-use native.Mathlib.Nat.{mod-eq-of-lt, div-eq-of-lt, mod-self, div-self, mul-le-mul}
+use native.Mathlib.Nat.{mod-eq-of-lt, div-eq-of-lt, mod-self, div-self, mul-le-mul-right}
 use native.Mathlib.Decide.{ℕ-discrete, decLt}
 use native.Mathlib.Numerals.{add-one}
 use borrow.Author.Tests.{eqb-true, eqb-false}
@@ -21,7 +21,8 @@ use Rattle.windows.specs.Arcs.{up, down, arcOf, oneTo, each, windows, arcsAt, a
 use Rattle.windows.proofs.Listed.{each-more, windows-of}
 use Rattle.windows.proofs.Limits.{number-small, place-below, getD-any, admits-limit}
 use Rattle.layout.specs.declared.Edge.{Edge}
-use Rattle.layout.specs.Records.{Item, item, nothing, Lists, itemAt, Room, modeWindows, Modes}
+use Rattle.layout.specs.declared.Window.{Window as Item}
+use Rattle.layout.specs.Records.{item, nothing, itemAt, modeWindows, Modes}
 use Rattle.layout.specs.Edges.{edge, byKind, edgeOf}
 use Rattle.layout.proofs.Windows.{mode-windows}
 use Rattle.rounds.specs.declared.Stand.{Stand}
@@ -86,25 +87,27 @@ edge-same : (d d′ a a′ u u′ w w′ : ℕ) → d ≡ d′ → a ≡ a′ �
 edge-same d d′ a a′ u u′ w w′ x y z t = rw (x, y, z, t)
 
 -- where the position g + 1 stands, as the theory counts
-record Stood (at : Stand) (n positions p g : ℕ) : Type 0 where
+record Stood (at : Stand) (n positions p q g : ℕ) : Type 0 where
+  steps : at .q ≡ q
   here : at .here ≡ g % positions * n
   next : at .next ≡ suc g % positions * n
   cross : at .cross ≡ p * (suc g / positions)
   first : g / positions ≡ 0
 
-stood : (g n positions p : ℕ) → g < positions → Stood (standOf g n positions p) n positions p g
+stood : (g n positions p q : ℕ) → g < positions → Stood (standOf g n positions p q) n positions p q g
 unfolding standOf
-stood g n positions p h = go (eqb (g + 1) positions) refl
+stood g n positions p q h = go (eqb (g + 1) positions) refl
   where
     low : g * n ≡ g % positions * n
     low = ap (λ (x : ℕ). x * n) (sym (mod-eq-of-lt h))
 
-    go : (b : Bool) → eqb (g + 1) positions ≡ b → Stood (pick b (record { here = g * n; next = 0; cross = p; mark = g * 4608 }) (record { here = g * n; next = (g + 1) * n; cross = 0; mark = g * 4608 })) n positions p g
+    go : (b : Bool) → eqb (g + 1) positions ≡ b → Stood (pick b (record { here = g * n; next = 0; cross = p; q = q; mark = g * 4608 }) (record { here = g * n; next = (g + 1) * n; cross = 0; q = q; mark = g * 4608 })) n positions p q g
     go true e =
         let last : suc g ≡ positions = omega (arith, eqb-true (g + 1) positions e) in
         let some : 0 < positions = omega arith in
         let again : suc g % positions ≡ 0 = ap (λ (x : ℕ). x % positions) last ∙ mod-self positions in
         record {
+          steps = refl;
           here = low;
           next = rw again (omega arith);
           cross = omega (arith, ap (λ (x : ℕ). p * x) (ap (λ (x : ℕ). x / positions) last ∙ div-self some));
@@ -114,32 +117,33 @@ stood g n positions p h = go (eqb (g + 1) positions) refl
         let other = eqb-false (g + 1) positions e in
         let more : suc g < positions = omega arith in
         record {
+          steps = refl;
           here = low;
           next = ap (λ (x : ℕ). x * n) (add-one g ∙ sym (mod-eq-of-lt more));
           cross = omega (arith, ap (λ (x : ℕ). p * x) (div-eq-of-lt more));
           first = div-eq-of-lt h;
         }
 
-module _ (s : Sheet) (p q g : ℕ) (at : Stand) (o : Stood at (s .n) (s .positions) p g) where
+module _ (s : Sheet) (p q g : ℕ) (at : Stand) (o : Stood at (s .n) (s .positions) p q g) where
   here-at : (i : ℕ) → 1 ≤ i → at .here + i - 1 ≡ g % s .positions * s .n + pred i
   here-at i h = spot (at .here) i h ∙ ap (λ (x : ℕ). x + pred i) (o .here)
 
   next-at : (i : ℕ) → 1 ≤ i → at .next + i - 1 ≡ suc g % s .positions * s .n + pred i
   next-at i h = spot (at .next) i h ∙ ap (λ (x : ℕ). x + pred i) (o .next)
 
-  stays : (x : ℕ) → x ≡ x + p * (g / s .positions)
-  stays x = omega (arith, ap (λ (y : ℕ). p * y) (o .first))
+  stays : (x : ℕ) → at .q * x ≡ q * x + p * (g / s .positions)
+  stays x = ap (λ (y : ℕ). y * x) (o .steps) ∙ omega (arith, ap (λ (y : ℕ). p * y) (o .first))
 
-  crosses : (x : ℕ) → x + at .cross ≡ x + p * (suc g / s .positions)
-  crosses x = ap (λ (y : ℕ). x + y) (o .cross)
+  crosses : (x : ℕ) → at .q * x + at .cross ≡ q * x + p * (suc g / s .positions)
+  crosses x = ap₂ (λ (y z : ℕ). y * x + z) (o .steps) (o .cross)
 
   window-edge : (k : Kind) (i j : ℕ) (w : ℤ) → 1 ≤ i → 1 ≤ j
-      → edgeOf (item q (record { kind = k; to = i; from = j; w = w })) (at .here) (at .next) (at .cross) ≡ weighed p q (arcOf s (suc g) (record { kind = k; to = i; from = j; w = w }))
+      → edgeOf (item (record { kind = k; to = i; from = j; w = w })) (at .q) (at .here) (at .next) (at .cross) ≡ weighed p q (arcOf s (suc g) (record { kind = k; to = i; from = j; w = w }))
   unfolding byKind
-  window-edge A0 i j w a b = edge-same _ _ _ _ _ _ _ _ (here-at j b) (here-at i a) (stays (q * up w)) (stays (q * down w))
-  window-edge B0 i j w a b = edge-same _ _ _ _ _ _ _ _ (here-at i a) (here-at j b) (stays (q * down w)) (stays (q * up w))
-  window-edge A1 i j w a b = edge-same _ _ _ _ _ _ _ _ (here-at j b) (next-at i a) (stays (q * up w)) (crosses (q * down w))
-  window-edge B1 i j w a b = edge-same _ _ _ _ _ _ _ _ (next-at i a) (here-at j b) (crosses (q * down w)) (stays (q * up w))
+  window-edge A0 i j w a b = edge-same _ _ _ _ _ _ _ _ (here-at j b) (here-at i a) (stays (up w)) (stays (down w))
+  window-edge B0 i j w a b = edge-same _ _ _ _ _ _ _ _ (here-at i a) (here-at j b) (stays (down w)) (stays (up w))
+  window-edge A1 i j w a b = edge-same _ _ _ _ _ _ _ _ (here-at j b) (next-at i a) (stays (up w)) (crosses (down w))
+  window-edge B1 i j w a b = edge-same _ _ _ _ _ _ _ _ (next-at i a) (here-at j b) (crosses (down w)) (stays (up w))
 
 -- ---- the list of a sheet
 getD-in : {A : Type 0} (l : List A) (i : ℕ) (d : A) → i < length l → List·Memᴰ (getD l i d) l
@@ -147,17 +151,17 @@ getD-in [] i d h = absurd (omega arith)
 getD-in (a ∷ l) zero d h = List·Memᴰ·head refl
 getD-in (a ∷ l) (suc i) d h = List·Memᴰ·tail (getD-in l i d (omega arith))
 
-module _ (s : Sheet) (ok : Admitted s) (p q : ℕ) (l : Lists) (start : List ℕ) (w : ℕ) (laid : Modes (s .tables) (s .n) q l start (s .m) w) where
+module _ (s : Sheet) (ok : Admitted s) (p q : ℕ) (l : List Item) (start : List ℕ) (laid : Modes (s .tables) (s .n) l start (s .m)) where
   same : (t : ℕ) → t < s .m → modeWindows (s .tables) (s .n) t ≡ windows s t
   same t h = mode-windows s t h (ok .size .long-tables)
 
   pub starts : (t : ℕ) → t < s .m → getD start (t + 1) 0 ≡ getD start t 0 + length (windows s t)
-  starts t h = ap (λ (x : ℕ). getD start x 0) (add-one t) ∙ laid .next t h ∙ ap (λ (x : List Window). getD start t 0 + length x) (same t h)
+  starts t h = ap (λ (x : ℕ). getD start x 0) (add-one t) ∙ laid .starts .next t h ∙ ap (λ (x : List Window). getD start t 0 + length x) (same t h)
 
-  pub items : (t i : ℕ) → t < s .m → i < length (windows s t) → itemAt l (getD start t 0 + i) ≡ item q (getD (windows s t) i nothing)
+  pub items : (t i : ℕ) → t < s .m → i < length (windows s t) → itemAt l (getD start t 0 + i) ≡ item (getD (windows s t) i nothing)
   items t i h k = go (modeWindows (s .tables) (s .n) t) (windows s t) (same t h) (laid .inside t i h) k
     where
-      go : (xs ys : List Window) → xs ≡ ys → (i < length xs → itemAt l (getD start t 0 + i) ≡ item q (getD xs i nothing)) → i < length ys → itemAt l (getD start t 0 + i) ≡ item q (getD ys i nothing)
+      go : (xs ys : List Window) → xs ≡ ys → (i < length xs → itemAt l (getD start t 0 + i) ≡ item (getD xs i nothing)) → i < length ys → itemAt l (getD start t 0 + i) ≡ item (getD ys i nothing)
       go xs ys e f k = rw e at f k
 
   mode-is : (g : ℕ) → g < s .positions → mode s (suc g) ≡ getD (s .schedule) g 0
@@ -167,18 +171,18 @@ module _ (s : Sheet) (ok : Admitted s) (p q : ℕ) (l : Lists) (start : List ℕ
   has g i h k = windows-of s (getD (s .schedule) g 0) _ (getD-in (windows s (getD (s .schedule) g 0)) i nothing k)
 
   here : (g : ℕ) → g < s .positions → (i : ℕ) → i < length (windows s (getD (s .schedule) g 0))
-      → edgeOf (itemAt l (getD start (getD (s .schedule) g 0) 0 + i)) (standOf g (s .n) (s .positions) p .here) (standOf g (s .n) (s .positions) p .next) (standOf g (s .n) (s .positions) p .cross)
+      → named (itemAt l (getD start (getD (s .schedule) g 0) 0 + i)) (standOf g (s .n) (s .positions) p q) (getD start (getD (s .schedule) g 0) 0 + i) .edge
       ≡ weighed p q (arcOf s (suc g) (getD (windows s (getD (s .schedule) g 0)) i nothing))
   here g k i j =
       let t = getD (s .schedule) g 0 in
       let a = getD (windows s t) i nothing in
-      let at = standOf g (s .n) (s .positions) p in
+      let at = standOf g (s .n) (s .positions) p q in
       let e = has g i k j in
-      ap (λ (x : Item). edgeOf x (at .here) (at .next) (at .cross)) (items t i (ok .modes g k) j)
-      ∙ window-edge s p q g at (stood g (s .n) (s .positions) p k) (a .kind) (a .to) (a .from) (a .w) (e .to-event .0) (e .from-event .0)
+      ap (λ (x : Item). edgeOf x (at .q) (at .here) (at .next) (at .cross)) (items t i (ok .modes g k) j)
+      ∙ window-edge s p q g at (stood g (s .n) (s .positions) p q k) (a .kind) (a .to) (a .from) (a .w) (e .to-event .0) (e .from-event .0)
 
   -- THEOREM: the arcs that a round walks are the sheet's arcs
-  walked-match : (g : ℕ) → g ≤ s .positions → Match p q (walked l start (s .schedule) (s .n) (s .positions) p g) (each (oneTo g) (arcsAt s))
+  walked-match : (g : ℕ) → g ≤ s .positions → Match p q (walked l start (s .schedule) (s .n) (s .positions) p q g) (each (oneTo g) (arcsAt s))
   unfolding walked
   walked-match zero h = tt
   walked-match (suc g) h =
@@ -186,78 +190,76 @@ module _ (s : Sheet) (ok : Admitted s) (p q : ℕ) (l : Lists) (start : List ℕ
       let t = getD (s .schedule) g 0 in
       let below = ok .modes g k in
       let count : getD start (t + 1) 0 - getD start t 0 ≡ length (windows s t) = omega (arith, starts t below) in
-      let part = match-span p q (λ x. named (itemAt l x) (standOf g (s .n) (s .positions) p) x) (arcOf s (suc g)) (windows s t) (getD start t 0) (λ i j. here g k i j) in
-      subst (Match p q (walked l start (s .schedule) (s .n) (s .positions) p (suc g))) (sym (each-more g (arcsAt s)))
-      (match-append p q (walked l start (s .schedule) (s .n) (s .positions) p g) (each (oneTo g) (arcsAt s)) (span (λ x. named (itemAt l x) (standOf g (s .n) (s .positions) p) x) (getD start t 0) (getD start (t + 1) 0 - getD start t 0)) (arcsAt s (suc g))
+      let part = match-span p q (λ x. named (itemAt l x) (standOf g (s .n) (s .positions) p q) x) (arcOf s (suc g)) (windows s t) (getD start t 0) (λ i j. here g k i j) in
+      subst (Match p q (walked l start (s .schedule) (s .n) (s .positions) p q (suc g))) (sym (each-more g (arcsAt s)))
+      (match-append p q (walked l start (s .schedule) (s .n) (s .positions) p q g) (each (oneTo g) (arcsAt s)) (span (λ x. named (itemAt l x) (standOf g (s .n) (s .positions) p q) x) (getD start t 0) (getD start (t + 1) 0 - getD start t 0)) (arcsAt s (suc g))
       (walked-match g (omega arith)) (rw (count, mode-is g k) part))
 
   -- THEOREM: the tables of the rounds are the tables of the sheet's arcs
-  pub table-is : (r v : ℕ) → tableOf (walked l start (s .schedule) (s .n) (s .positions) p (s .positions)) r v ≡ table (arcs s) p q r v
+  pub table-is : (r v : ℕ) → tableOf (walked l start (s .schedule) (s .n) (s .positions) p q (s .positions)) r v ≡ table (arcs s) p q r v
   unfolding arcs
-  table-is r v = match-table p q (walked l start (s .schedule) (s .n) (s .positions) p (s .positions)) (each (oneTo (s .positions)) (arcsAt s)) (walked-match (s .positions) (omega arith)) r v
+  table-is r v = match-table p q (walked l start (s .schedule) (s .n) (s .positions) p q (s .positions)) (each (oneTo (s .positions)) (arcsAt s)) (walked-match (s .positions) (omega arith)) r v
 
   -- ---- what the rounds are handed
 
   -- every record is a window of a mode
   placed : (t : ℕ) → t ≤ s .m → (k : ℕ) → k < getD start t 0 → (j i : ℕ) × (j < s .m) × (i < length (windows s j)) × (k ≡ getD start j 0 + i)
-  placed zero h k x = absurd (omega (arith, laid .first))
+  placed zero h k x = absurd (omega (arith, laid .starts .first))
   placed (suc t) h k x =
       elim (decLt k (getD start t 0)) [
         | yes a ↦ placed t (omega arith) k a
         | no a ↦ (t, k - getD start t 0, omega arith, omega (arith, starts t (omega arith), ap (λ (y : ℕ). getD start y 0) (add-one t)), omega arith)
       ]
 
-  small : (q ≤ 1000) → (t : ℕ) → t < s .m → (a : Window) → Has s t a → (q * up (a .w) ≤ 1000000000) × (q * down (a .w) ≤ 1000000000)
-  small few t h a has =
+  small : (t : ℕ) → t < s .m → (a : Window) → Has s t a → (up (a .w) ≤ 1000000) × (down (a .w) ≤ 1000000)
+  small t h a has =
       let k = place (s .n) t (number (a .kind)) (a .to) (a .from) in
       let below : k < places (s .n) (s .m) = place-below (s .n) (s .m) t (number (a .kind)) (a .to) (a .from) h (number-small (a .kind)) (has .to-event .0) (has .to-event .1) (has .from-event .0) (has .from-event .1) in
       let is : getD (s .tables) k (pos 0) ≡ a .w = getD-any (s .tables) k (pos 0) noWindow (omega (arith, ok .size .long-tables)) ∙ has .stands in
-      let x = admits-limit (a .w) (ap admits (sym is) ∙ ok .values k below) (has .present) in
-      (mul-le-mul few (x .0), mul-le-mul few (x .1))
+      admits-limit (a .w) (ap admits (sym is) ∙ ok .values k below) (has .present)
 
   -- the record k is fine
   record Good (k : ℕ) : Type 0 where
-    to-event : Event s (getD (l .tos) k 0)
-    from-event : Event s (getD (l .froms) k 0)
-    up-small : getD (l .ups) k 0 ≤ 1000000000
-    down-small : getD (l .downs) k 0 ≤ 1000000000
+    to-event : Event s (itemAt l k .to)
+    from-event : Event s (itemAt l k .from)
+    up-small : up (itemAt l k .w) ≤ 1000000
+    down-small : down (itemAt l k .w) ≤ 1000000
 
-  good : q ≤ 1000 → (t : ℕ) → t ≤ s .m → (k : ℕ) → k < getD start t 0 → Good k
-  good few t h k x =
+  good : (t : ℕ) → t ≤ s .m → (k : ℕ) → k < getD start t 0 → Good k
+  good t h k x =
       let j = placed t h k x in
       let a = getD (windows s (j .0)) (j .1) nothing in
       let b = windows-of s (j .0) a (getD-in (windows s (j .0)) (j .1) nothing (j .3)) in
-      let m = small few (j .0) (j .2) a b in
-      let e : itemAt l k ≡ item q a = ap (itemAt l) (j .4) ∙ items (j .0) (j .1) (j .2) (j .3) in
+      let m = small (j .0) (j .2) a b in
+      let e : itemAt l k ≡ item a = ap (itemAt l) (j .4) ∙ items (j .0) (j .1) (j .2) (j .3) in
       record {
-        to-event = rw (ap (λ (y : Item). y .to) e) (b .to-event);
-        from-event = rw (ap (λ (y : Item). y .from) e) (b .from-event);
-        up-small = rw (ap (λ (y : Item). y .up) e) (m .0);
-        down-small = rw (ap (λ (y : Item). y .down) e) (m .1);
+        to-event = rw e (b .to-event);
+        from-event = rw e (b .from-event);
+        up-small = rw e (m .0);
+        down-small = rw e (m .1);
       }
 
-  fine : q ≤ 1000 → Room l 4608 → (t : ℕ) → t ≤ s .m → Fine l (s .n) (getD start t 0)
-  fine few room t h =
-      let most : getD start t 0 ≤ 4608 = omega (arith, laid .below t h, laid .few, few-places (s .n) (s .m) (ok .size .few-events) (ok .size .few-modes)) in
+  start-few : (t : ℕ) → t ≤ s .m → getD start t 0 ≤ 4608
+  start-few t h = omega (arith, laid .few t h, mul-le-mul-right (4 * (s .n * s .n)) h, few-places (s .n) (s .m) (ok .size .few-events) (ok .size .few-modes))
+
+  fine : (t : ℕ) → t ≤ s .m → Fine l (s .n) (getD start t 0)
+  fine t h =
       record {
-        few = most;
-        room = record { kinds = omega (arith, room .kinds); tos = omega (arith, room .tos); froms = omega (arith, room .froms); ups = omega (arith, room .ups); downs = omega (arith, room .downs) };
-        to-first = λ k x. good few t h k x .to-event .0;
-        to-last = λ k x. good few t h k x .to-event .1;
-        from-first = λ k x. good few t h k x .from-event .0;
-        from-last = λ k x. good few t h k x .from-event .1;
-        up-small = λ k x. good few t h k x .up-small;
-        down-small = λ k x. good few t h k x .down-small;
+        few = start-few t h;
+        to-first = λ k x. good t h k x .to-event .0;
+        to-last = λ k x. good t h k x .to-event .1;
+        from-first = λ k x. good t h k x .from-event .0;
+        from-last = λ k x. good t h k x .from-event .1;
+        up-small = λ k x. good t h k x .up-small;
+        down-small = λ k x. good t h k x .down-small;
       }
 
   -- THEOREM: a sheet's list is what the rounds ask for
-  pub parts : q ≤ 1000 → Room l 4608 → s .m < length start → Parts l (s .n) start (s .schedule) (s .positions)
-  parts few room long =
+  pub parts : Parts l (s .n) start (s .schedule) (s .positions)
+  parts =
       record {
-        long = ok .size .long-schedule;
-        mode = λ g h. omega (arith, ok .modes g h);
         rising = λ g h. omega (arith, starts (getD (s .schedule) g 0) (ok .modes g h));
-        fine = λ g h. fine few room (getD (s .schedule) g 0 + 1) (omega (arith, ok .modes g h));
+        fine = λ g h. fine (getD (s .schedule) g 0 + 1) (omega (arith, ok .modes g h));
       }
 
   -- ---- what a mark names
@@ -269,20 +271,20 @@ module _ (s : Sheet) (ok : Admitted s) (p q : ℕ) (l : Lists) (start : List ℕ
     pub few : at < 4608
     pub of : Window
     pub has : Has s (getD (s .schedule) position 0) of
-    pub stands : itemAt l at ≡ item q of
-    pub made : a .edge ≡ edgeOf (itemAt l at) (standOf position (s .n) (s .positions) p .here) (standOf position (s .n) (s .positions) p .next) (standOf position (s .n) (s .positions) p .cross)
+    pub stands : itemAt l at ≡ item of
+    pub made : a .edge ≡ named (itemAt l at) (standOf position (s .n) (s .positions) p q) at .edge
     pub edge : a .edge ≡ weighed p q (arcOf s (suc position) of)
     pub mark : a .mark ≡ position * 4608 + at + 1
 
-  stand-mark : (g : ℕ) → standOf g (s .n) (s .positions) p .mark ≡ g * 4608
+  stand-mark : (g : ℕ) → standOf g (s .n) (s .positions) p q .mark ≡ g * 4608
   unfolding standOf
   stand-mark g = go (eqb (g + 1) (s .positions))
     where
-      go : (b : Bool) → pick {A = Stand} b (record { here = g * s .n; next = 0; cross = p; mark = g * 4608 }) (record { here = g * s .n; next = (g + 1) * s .n; cross = 0; mark = g * 4608 }) .mark ≡ g * 4608
+      go : (b : Bool) → pick {A = Stand} b (record { here = g * s .n; next = 0; cross = p; q = q; mark = g * 4608 }) (record { here = g * s .n; next = (g + 1) * s .n; cross = 0; q = q; mark = g * 4608 }) .mark ≡ g * 4608
       go true = refl
       go false = refl
 
-  source-at : (g : ℕ) → g < s .positions → (k : ℕ) → getD start (getD (s .schedule) g 0) 0 ≤ k → k < getD start (getD (s .schedule) g 0 + 1) 0 → Source (named (itemAt l k) (standOf g (s .n) (s .positions) p) k)
+  source-at : (g : ℕ) → g < s .positions → (k : ℕ) → getD start (getD (s .schedule) g 0) 0 ≤ k → k < getD start (getD (s .schedule) g 0 + 1) 0 → Source (named (itemAt l k) (standOf g (s .n) (s .positions) p q) k)
   source-at g h k x y =
       let t = getD (s .schedule) g 0 in
       let i = k - getD start t 0 in
@@ -292,12 +294,12 @@ module _ (s : Sheet) (ok : Admitted s) (p q : ℕ) (l : Lists) (start : List ℕ
         position = g;
         below = h;
         at = k;
-        few = omega (arith, laid .below (t + 1) (omega (arith, ok .modes g h)), laid .few, few-places (s .n) (s .m) (ok .size .few-events) (ok .size .few-modes));
+        few = omega (arith, start-few (t + 1) (omega (arith, ok .modes g h)));
         of = getD (windows s t) i nothing;
         has = has g i h j;
         stands = ap (itemAt l) (sym e) ∙ items t i (ok .modes g h) j;
         made = refl;
-        edge = ap (λ (z : ℕ). named (itemAt l z) (standOf g (s .n) (s .positions) p) z .edge) (sym e) ∙ here g h i j;
+        edge = ap (λ (z : ℕ). named (itemAt l z) (standOf g (s .n) (s .positions) p q) z .edge) (sym e) ∙ here g h i j;
         mark = ap (λ (z : ℕ). z + k + 1) (stand-mark g);
       }
 
@@ -308,15 +310,15 @@ module _ (s : Sheet) (ok : Admitted s) (p q : ℕ) (l : Lists) (start : List ℕ
   span-of f (suc n) a (List·Memᴰ·tail m) = let r = span-of f n (suc a) m in (r .0, omega (arith, r .1), omega (arith, r .2), r .3)
 
   -- THEOREM: every arc that a round walks is a window at a position, which its mark names
-  pub source : (g : ℕ) → g ≤ s .positions → {a : Named} → List·Memᴰ a (walked l start (s .schedule) (s .n) (s .positions) p g) → Source a
+  pub source : (g : ℕ) → g ≤ s .positions → {a : Named} → List·Memᴰ a (walked l start (s .schedule) (s .n) (s .positions) p q g) → Source a
   unfolding walked
   source zero h m = absurd (List·Memᴰ·not-nil m)
   source (suc g) h m =
       let t = getD (s .schedule) g 0 in
       let k : g < s .positions = omega arith in
-      elim (List·Memᴰ·append-cases (walked l start (s .schedule) (s .n) (s .positions) p g) m) [
+      elim (List·Memᴰ·append-cases (walked l start (s .schedule) (s .n) (s .positions) p q g) m) [
         | inl e ↦ source g (omega arith) e
         | inr e ↦
-            let r = span-of (λ x. named (itemAt l x) (standOf g (s .n) (s .positions) p) x) (getD start (t + 1) 0 - getD start t 0) (getD start t 0) e in
+            let r = span-of (λ x. named (itemAt l x) (standOf g (s .n) (s .positions) p q) x) (getD start (t + 1) 0 - getD start t 0) (getD start t 0) e in
             rw (r .3) (source-at g k (r .0) (r .1) (omega (arith, r .2, starts t (ok .modes g k))))
       ]

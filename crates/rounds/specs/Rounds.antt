@@ -11,9 +11,13 @@ use lib.Dec.{ltb, eqb}
 use lib.ListN.{length, getD, set}
 use Rattle.theory.specs.Arcs.{only}
 use Rattle.layout.specs.declared.Edge.{Edge}
-use Rattle.layout.specs.Records.{Item, Lists, itemAt, Room}
+use Rattle.layout.specs.declared.Window.{Window as Item}
+use Rattle.layout.specs.Records.{itemAt}
 use Rattle.layout.specs.Edges.{edgeOf}
+use Rattle.windows.specs.Arcs.{up, down}
+use Rattle.rounds.specs.declared.Job.{Job}
 use Rattle.rounds.specs.declared.Stand.{Stand}
+use Rattle.rounds.specs.declared.Turn.{Turn}
 
 -- An arc with its mark, which names its position and its record.
 pub record Named : Type 0 where
@@ -22,16 +26,17 @@ pub record Named : Type 0 where
 
 -- the record k at a position
 abbrev pub named : Item → Stand → ℕ → Named
-named a at k = record { mark = at .mark + k + 1; edge = edgeOf a (at .here) (at .next) (at .cross) }
+named a at k = record { mark = at .mark + k + 1; edge = edgeOf a (at .q) (at .here) (at .next) (at .cross) }
 
--- The position g + 1 of V: where its events and those of the next position stand, what crossing costs, and where its marks begin.
+-- The position g + 1 of V: where its events and those of the next position stand, what crossing costs, how many steps a unit of time
+-- has, and where its marks begin.
 abbrev pub pick : {A : Type 0} → Bool → A → A → A
 pick true a b = a
 pick false a b = b
 
-unfoldable pub standOf : ℕ → ℕ → ℕ → ℕ → Stand
-standOf g n positions p =
-    pick (eqb (g + 1) positions) (record { here = g * n; next = 0; cross = p; mark = g * 4608 }) (record { here = g * n; next = (g + 1) * n; cross = 0; mark = g * 4608 })
+unfoldable pub standOf : ℕ → ℕ → ℕ → ℕ → ℕ → Stand
+standOf g n positions p q =
+    pick (eqb (g + 1) positions) (record { here = g * n; next = 0; cross = p; q = q; mark = g * 4608 }) (record { here = g * n; next = (g + 1) * n; cross = 0; q = q; mark = g * 4608 })
 
 -- the times, and the marks
 pub record Board : Type 0 where
@@ -62,12 +67,27 @@ unfoldable pub span : {A : Type 0} → (ℕ → A) → ℕ → ℕ → List A
 span f a zero = []
 span f a (suc m) = f a ∷ span f (suc a) m
 
+-- the arcs of a part of the list at a position, where the part begins with the record k
+abbrev pub passed : Stand → ℕ → List Item → List Named
+passed at k [] = []
+passed at k (a ∷ rest) = named a at k ∷ passed at (suc k) rest
+
 -- "a mode's part at each position where it stands": the arcs of the first g positions
-unfoldable pub walked : Lists → List ℕ → List ℕ → ℕ → ℕ → ℕ → ℕ → List Named
-walked l start schedule n positions p zero = []
-walked l start schedule n positions p (suc g) =
+unfoldable pub walked : List Item → List ℕ → List ℕ → ℕ → ℕ → ℕ → ℕ → ℕ → List Named
+walked l start schedule n positions p q zero = []
+walked l start schedule n positions p q (suc g) =
     let t = getD schedule g 0 in
-    walked l start schedule n positions p g ++ span (λ k. named (itemAt l k) (standOf g n positions p) k) (getD start t 0) (getD start (t + 1) 0 - getD start t 0)
+    walked l start schedule n positions p q g ++ span (λ k. named (itemAt l k) (standOf g n positions p q) k) (getD start t 0) (getD start (t + 1) 0 - getD start t 0)
+
+-- the arcs of all positions
+abbrev pub roundOf : List Item → Job → List ℕ → List Named
+roundOf l job schedule = walked l (job .start) schedule (job .n) (job .positions) (job .p) (job .q) (job .positions)
+
+-- The turn at the position g + 1 of the round r + 1, where `left` turns are left: the mode there has the records from `first` to `last`.
+abbrev pub turnOf : ℕ → ℕ → ℕ → ℕ → Job → List ℕ → Turn
+turnOf left r g node job schedule =
+    let t = getD schedule g 0 in
+    record { left = left; round = r; position = g; node = node; first = getD (job .start) t 0; last = getD (job .start) (t + 1) 0; at = standOf g (job .n) (job .positions) (job .p) (job .q) }
 
 -- ---- tables over a list of arcs, as the theory has them
 unfoldable pub mostOf : List Named → (ℕ → ℕ) → ℕ → ℕ
@@ -82,15 +102,14 @@ tableOf arcs (suc r) v = max (tableOf arcs r v) (mostOf arcs (tableOf arcs r) v)
 -- ---- what the functions are handed
 
 -- The records below `count` are windows between events 1 to n, with limits that are small.
-pub record Fine (l : Lists) (n count : ℕ) : Type 0 where
+pub record Fine (l : List Item) (n count : ℕ) : Type 0 where
   pub few : count ≤ 4608
-  pub room : Room l count
-  pub to-first : (k : ℕ) → k < count → 1 ≤ getD (l .tos) k 0
-  pub to-last : (k : ℕ) → k < count → getD (l .tos) k 0 ≤ n
-  pub from-first : (k : ℕ) → k < count → 1 ≤ getD (l .froms) k 0
-  pub from-last : (k : ℕ) → k < count → getD (l .froms) k 0 ≤ n
-  pub up-small : (k : ℕ) → k < count → getD (l .ups) k 0 ≤ 1000000000
-  pub down-small : (k : ℕ) → k < count → getD (l .downs) k 0 ≤ 1000000000
+  pub to-first : (k : ℕ) → k < count → 1 ≤ itemAt l k .to
+  pub to-last : (k : ℕ) → k < count → itemAt l k .to ≤ n
+  pub from-first : (k : ℕ) → k < count → 1 ≤ itemAt l k .from
+  pub from-last : (k : ℕ) → k < count → itemAt l k .from ≤ n
+  pub up-small : (k : ℕ) → k < count → up (itemAt l k .w) ≤ 1000000
+  pub down-small : (k : ℕ) → k < count → down (itemAt l k .w) ≤ 1000000
 
 -- The position's events and the next one's stand among N nodes.
 pub record Stands (at : Stand) (n N : ℕ) : Type 0 where
@@ -98,6 +117,7 @@ pub record Stands (at : Stand) (n N : ℕ) : Type 0 where
   pub next-in : at .next + n ≤ N
   pub few : N ≤ 192
   pub cross-small : at .cross ≤ 1000000000
+  pub q-small : at .q ≤ 1000
   pub mark-small : at .mark ≤ 69120
 
 -- The old times are small, and there is room for N times, old and new, and for a row of N marks.
@@ -120,19 +140,12 @@ pub record Able (a : Item) (at : Stand) (k : ℕ) (old new marks : List ℕ) (ro
   pub from-first : 1 ≤ a .from
   pub here-few : at .here < 4096
   pub next-few : at .next < 4096
-  pub up-small : a .up < 4294967296000
-  pub down-small : a .down < 4294967296000
+  pub q-small : at .q ≤ 1000
   pub cross-small : at .cross < 4294967296000
   pub first-few : at .mark ≤ 69120
   pub few : k < 4608
-  pub reach : Reach (edgeOf a (at .here) (at .next) (at .cross)) old new marks row
-
--- Each position's mode has its part of the records.
-pub record Parts (l : Lists) (n : ℕ) (start schedule : List ℕ) (positions : ℕ) : Type 0 where
-  pub long : positions ≤ length schedule
-  pub mode : (g : ℕ) → g < positions → getD schedule g 0 + 1 < length start
-  pub rising : (g : ℕ) → g < positions → getD start (getD schedule g 0) 0 ≤ getD start (getD schedule g 0 + 1) 0
-  pub fine : (g : ℕ) → g < positions → Fine l n (getD start (getD schedule g 0 + 1) 0)
+  pub marks-few : length marks ≤ 36864
+  pub reach : Reach (named a at k .edge) old new marks row
 
 -- The numbers of events and positions are within their limits, and so is p.
 pub record Limits (n positions p : ℕ) : Type 0 where
@@ -142,6 +155,18 @@ pub record Limits (n positions p : ℕ) : Type 0 where
   pub few-positions : positions ≤ 16
   pub p-small : p ≤ 1000000000
 
+-- What is asked is within its limits, and each position's mode has a part of the records.
+pub record Posed (job : Job) (schedule : List ℕ) : Type 0 where
+  pub limits : Limits (job .n) (job .positions) (job .p)
+  pub q-small : job .q ≤ 1000
+  pub long : job .positions ≤ length schedule
+  pub mode : (g : ℕ) → g < job .positions → getD schedule g 0 + 1 < 9
+
+-- Those parts are fine.
+pub record Parts (l : List Item) (n : ℕ) (start schedule : List ℕ) (positions : ℕ) : Type 0 where
+  pub rising : (g : ℕ) → g < positions → getD start (getD schedule g 0) 0 ≤ getD start (getD schedule g 0 + 1) 0
+  pub fine : (g : ℕ) → g < positions → Fine l n (getD start (getD schedule g 0 + 1) 0)
+
 -- ---- what the rounds leave
 
 -- v is the first place below n where the lists differ, or n
@@ -149,6 +174,13 @@ pub record Differs (xs ys : List ℕ) (n v : ℕ) : Type 0 where
   pub within : v ≤ n
   pub same : (k : ℕ) → k < v → getD xs k 0 ≡ getD ys k 0
   pub other : v < n → getD xs v 0 ≢ getD ys v 0
+
+-- After a turn comes that of the next position, or, after the last one, that of the next round, which reads what this round wrote; or
+-- none, where the round changed nothing.
+pub data Next (t : Turn) (job : Job) (schedule old new : List ℕ) (t′ : Turn) (old′ : List ℕ) : Type 0 where
+  on : t .position + 1 < job .positions → t′ ≡ turnOf (t .left - 1) (t .round) (t .position + 1) (t .node) job schedule → old′ ≡ old → Next t job schedule old new t′ old′
+  still : job .positions ≤ t .position + 1 → Differs old new (job .positions * job .n) (job .positions * job .n) → t′ ≡ turnOf 0 (t .round) 0 (job .positions * job .n) job schedule → old′ ≡ old → Next t job schedule old new t′ old′
+  again : job .positions ≤ t .position + 1 → (d : ℕ) → d < job .positions * job .n → Differs old new (job .positions * job .n) d → t′ ≡ turnOf (t .left - 1) (t .round + 1) 0 d job schedule → old′ ≡ new → Next t job schedule old new t′ old′
 
 -- the mark of v in row r names the arc that raised v in round r + 1
 pub record Told (arcs : List Named) (marks : List ℕ) (r v : ℕ) : Type 0 where

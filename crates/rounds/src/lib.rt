@@ -4,9 +4,8 @@
 ghost use mathlib.Core.Path.{_≡_};
 ghost use Prim.Native.Nat.{ℕ, _+_, _-_, _*_, _≤_, _<_};
 ghost use lib.ListN.{length, getD};
-ghost use Rattle.layout.specs.Records.{entry, lists, itemAt, Room};
-ghost use Rattle.layout.specs.Edges.{edgeOf};
-ghost use Rattle.rounds.specs.Rounds.{named, standOf, Able, board, raise, after, span, walked, Boards, Parts, Limits, Differs, Ran};
+ghost use Rattle.layout.specs.Records.{item, nothing};
+ghost use Rattle.rounds.specs.Rounds.{named, standOf, Able, board, raise, after, passed, roundOf, turnOf, Posed, Parts, Differs, Next, Ran};
 
 // The most records of all modes; the marks of a position have so many numbers of their own.
 pub const RECORDS: usize = 4608;
@@ -14,32 +13,78 @@ pub const RECORDS: usize = 4608;
 // The most nodes; a row of marks has a place for each.
 pub const NODES: usize = 192;
 
-// Where a position stands: the places of its events and of the next position's, what crossing to that costs, and the first of its marks.
+// Where a position stands: the places of its events and of the next position's, what crossing to that costs, how many steps a unit of
+// time has, and the first of its marks.
 pub struct Stand {
     pub here: usize,
     pub next: usize,
     pub cross: u64,
+    pub q: u64,
     pub mark: usize,
 }
 
 // The position g + 1. After the last comes the first again, a cycle time later.
-pub fn stand_at(g: usize, n: usize, positions: usize, p: u64) -> Stand
+pub fn stand_at(g: usize, n: usize, positions: usize, p: u64, q: u64) -> Stand
     requires { ⌜ (g < positions) × (positions ≤ 16) × (n ≤ 12) ⌝ }
-    ensures { λ r. ⌜ r ≡ standOf g n positions p ⌝ }
+    ensures { λ r. ⌜ r ≡ standOf g n positions p q ⌝ }
 {
+    let here = g * n;
+    let mark = g * RECORDS;
     if g + 1 == positions {
         return Stand {
-            here: g * n,
+            here: here,
             next: 0,
             cross: p,
-            mark: g * RECORDS,
+            q: q,
+            mark: mark,
         };
     }
     Stand {
-        here: g * n,
+        here: here,
         next: (g + 1) * n,
         cross: 0,
-        mark: g * RECORDS,
+        q: q,
+        mark: mark,
+    }
+}
+
+// What the rounds are asked: events and positions, the cycle time p/q, and where the records of each mode begin.
+pub struct Job {
+    pub n: usize,
+    pub positions: usize,
+    pub p: u64,
+    pub q: u64,
+    pub start: [usize; 9],
+}
+
+// A turn of the walk: one position in one round, and the records of its mode. `left` turns are left, this one among them; `node` is one
+// that the round before raised.
+struct Turn {
+    left: usize,
+    round: usize,
+    position: usize,
+    node: usize,
+    first: usize,
+    last: usize,
+    at: Stand,
+}
+
+// The turn at the position g + 1 of the round r + 1.
+fn turn_at(left: usize, r: usize, g: usize, node: usize, job: Job, schedule: &[u8]) -> Turn
+    requires { ⌜ Posed job (now schedule) × (g < job .positions) ⌝ }
+    ensures { λ x. ⌜ x ≡ turnOf left r g node job (now (schedule .entry)) ⌝ }
+{
+    let t = schedule[g] as usize;
+    let start = job.start;
+    let at = stand_at(g, job.n, job.positions, job.p, job.q);
+    Turn {
+        left: left,
+        round: r,
+        position: g,
+        node: node,
+        first: start[t],
+        last: start[t + 1],
+        at: at,
     }
 }
 
@@ -58,99 +103,32 @@ fn number(first: usize, k: usize) -> u32
     (first + k + 1) as u32
 }
 
-// The arc of the record k raises the time at its arrival, where that is more than the new table has there.
-fn step(
-    kind: u8,
-    to: u8,
-    from: u8,
-    up: u64,
-    down: u64,
-    at: Stand,
-    k: usize,
-    old: &[u64],
-    new: &mut [u64],
-    marks: &mut [u32],
-    row: usize,
-)
-    requires { ⌜ Able (entry kind to from up down) at k (now old) (now new) (now marks) row ⌝ }
-    ensures { λ _. ⌜ board (now (new .exit)) (now (marks .exit)) ≡ raise (now (old .entry)) row (named (entry kind to from up down) at k) (board (now (new .entry)) (now (marks .entry))) ⌝ }
+// The arc of a record, the i-th of those of the turn, raises the time at its arrival, where that is more than the new table has there.
+fn step(w: layout::Window, turn: Turn, i: usize, old: &[u64], new: &mut [u64], marks: &mut [u32])
+    requires { ⌜ Able w (turn .at) (turn .first + i) (now old) (now new) (now marks) (turn .round * 192) ⌝ }
+    ensures { λ _. ⌜ board (now (new .exit)) (now (marks .exit)) ≡ raise (now (old .entry)) (turn .round * 192) (named w (turn .at) (turn .first + i)) (board (now (new .entry)) (now (marks .entry))) ⌝ }
 {
-    let mark = number(at.mark, k);
-    let e = layout::edge_of(kind, to, from, up, down, at.here, at.next, at.cross);
+    let at = turn.at;
+    let mark = number(at.mark, turn.first + i);
+    let e = layout::edge_of(w, at.q, at.here, at.next, at.cross);
     let departure = e.departure;
     let arrival = e.arrival;
     let most = less(old[departure] + e.rise, e.fall);
     if new[arrival] < most {
         new[arrival] = most;
-        marks[row + arrival] = mark;
+        marks[turn.round * NODES + arrival] = mark;
     }
 }
 
-// The records from a to e, walked at a position.
-fn pass(
-    kind: &[u8],
-    to: &[u8],
-    from: &[u8],
-    up: &[u64],
-    down: &[u64],
-    a: usize,
-    e: usize,
-    at: Stand,
-    old: &[u64],
-    new: &mut [u64],
-    marks: &mut [u32],
-    row: usize,
-)
-    requires { ⌜ (a ≤ e) × Room (lists (now kind) (now to) (now from) (now up) (now down)) e × ((k : ℕ) → k < e → Able (itemAt (lists (now kind) (now to) (now from) (now up) (now down)) k) at k (now old) (now new) (now marks) row) ⌝ }
-    ensures { λ _. ⌜ board (now (new .exit)) (now (marks .exit)) ≡ after (now (old .entry)) row (span (λ k. named (itemAt (lists (now (kind .entry)) (now (to .entry)) (now (from .entry)) (now (up .entry)) (now (down .entry))) k) at k) a (e - a)) (board (now (new .entry)) (now (marks .entry))) ⌝ }
+// The records of a turn, lent as a part of the list, one after the other.
+fn pass(windows: &[layout::Window], turn: Turn, old: &[u64], new: &mut [u64], marks: &mut [u32])
+    requires { ⌜ ((i : ℕ) → i < length (now windows) → Able (getD (now windows) i (item nothing)) (turn .at) (turn .first + i) (now old) (now new) (now marks) (turn .round * 192)) ⌝ }
+    ensures { λ _. ⌜ board (now (new .exit)) (now (marks .exit)) ≡ after (now (old .entry)) (turn .round * 192) (passed (turn .at) (turn .first) (now (windows .entry))) (board (now (new .entry)) (now (marks .entry))) ⌝ }
 {
-    let mut k = a;
-    while k < e {
-        step(
-            kind[k],
-            to[k],
-            from[k],
-            up[k],
-            down[k],
-            at,
-            k,
-            old,
-            new,
-            marks,
-            row,
-        );
-        k += 1;
-    }
-}
-
-// One round: the positions in turn, each walking the records of its mode.
-fn round(
-    kind: &[u8],
-    to: &[u8],
-    from: &[u8],
-    up: &[u64],
-    down: &[u64],
-    start: &[usize],
-    schedule: &[u8],
-    n: usize,
-    positions: usize,
-    p: u64,
-    old: &[u64],
-    new: &mut [u64],
-    marks: &mut [u32],
-    row: usize,
-)
-    requires { ⌜ Limits n positions p × Parts (lists (now kind) (now to) (now from) (now up) (now down)) n (now start) (now schedule) positions × Boards (now old) (now new) (now marks) row (positions * n) ⌝ }
-    ensures { λ _. ⌜ board (now (new .exit)) (now (marks .exit)) ≡ after (now (old .entry)) row (walked (lists (now (kind .entry)) (now (to .entry)) (now (from .entry)) (now (up .entry)) (now (down .entry))) (now (start .entry)) (now (schedule .entry)) n positions p positions) (board (now (new .entry)) (now (marks .entry))) ⌝ }
-{
-    let mut g: usize = 0;
-    while g < positions {
-        let t = schedule[g] as usize;
-        let a = start[t];
-        let e = start[t + 1];
-        let at = stand_at(g, n, positions, p);
-        pass(kind, to, from, up, down, a, e, at, old, new, marks, row);
-        g += 1;
+    let mut i: usize = 0;
+    while i < windows.len() {
+        step(windows[i], turn, i, old, &mut new[..], &mut marks[..]);
+        i += 1;
     }
 }
 
@@ -183,58 +161,78 @@ fn zeros() -> [u64; 192]
     [0u64; 192]
 }
 
-// Runs rounds from table 0, which is all zeros, until one changes nothing, or N of them. Row r of the marks is that of round r + 1.
-pub fn run(
-    kind: &[u8],
-    to: &[u8],
-    from: &[u8],
-    up: &[u64],
-    down: &[u64],
-    start: &[usize],
-    schedule: &[u8],
-    n: usize,
-    positions: usize,
-    p: u64,
-    marks: &mut [u32],
-) -> Ended
-    requires { ⌜ Limits n positions p × Parts (lists (now kind) (now to) (now from) (now up) (now down)) n (now start) (now schedule) positions × (length (now marks) ≡ 36864) ⌝ }
-    ensures { λ r. ⌜ Ran (walked (lists (now (kind .entry)) (now (to .entry)) (now (from .entry)) (now (up .entry)) (now (down .entry))) (now (start .entry)) (now (schedule .entry)) n positions p positions) (positions * n) (r .rounds) (r .node) (r .times) (now (marks .exit)) ⌝ }
+// Writes the new table over the old one.
+fn renew(new: &[u64], old: &mut [u64])
+    requires { ⌜ length (now new) ≡ length (now old) ⌝ }
+    ensures { λ _. ⌜ now (old .exit) ≡ now (new .entry) ⌝ }
 {
-    let nodes = positions * n;
-    let mut cur = zeros();
-    let mut node: usize = 0;
-    let mut r: usize = 0;
-    while r < nodes {
-        let old = cur;
-        round(
-            kind,
-            to,
-            from,
-            up,
-            down,
-            start,
-            schedule,
-            n,
-            positions,
-            p,
-            &old,
-            &mut cur,
-            marks,
-            r * NODES,
-        );
-        node = differs(&old, &cur, nodes);
-        if node == nodes {
-            return Ended {
-                rounds: r,
-                node: node,
-                times: cur,
-            };
-        }
-        r += 1;
+    let mut v: usize = 0;
+    while v < new.len() {
+        old[v] = new[v];
+        v += 1;
     }
+}
+
+// The turn after a turn, whose round is over where its position is the last.
+fn next(turn: Turn, job: Job, schedule: &[u8], old: &mut [u64], new: &[u64]) -> Turn
+    requires { ⌜ Posed job (now schedule) × (1 ≤ turn .left) × (turn .position < job .positions) × (turn .round < 192) × (length (now new) ≡ length (now old)) × (192 ≤ length (now old)) ⌝ }
+    ensures { λ r. ⌜ Next turn job (now (schedule .entry)) (now (old .entry)) (now (new .entry)) r (now (old .exit)) ⌝ }
+{
+    let left = turn.left - 1;
+    let g = turn.position + 1;
+    if g < job.positions {
+        return turn_at(left, turn.round, g, turn.node, job, schedule);
+    }
+    let nodes = job.positions * job.n;
+    let node = differs(old, new, nodes);
+    if node == nodes {
+        return turn_at(0, turn.round, 0, node, job, schedule);
+    }
+    renew(new, old);
+    turn_at(left, turn.round + 1, 0, node, job, schedule)
+}
+
+// Walks the list, the part of a position's mode at each turn, while turns are left.
+fn walk(
+    list: [layout::Window; 4608],
+    begin: Turn,
+    job: Job,
+    schedule: &[u8],
+    old: &mut [u64],
+    new: &mut [u64],
+    marks: &mut [u32],
+) -> Turn
+    requires { ⌜ Posed job (now schedule) × Parts list (job .n) (job .start) (now schedule) (job .positions) × (begin ≡ turnOf (job .positions * job .n * job .positions) 0 0 0 job (now schedule)) × (now new ≡ now old) × ((v : ℕ) → getD (now old) v 0 ≡ 0) × (length (now old) ≡ 192) × (length (now marks) ≡ 36864) ⌝ }
+    ensures { λ r. ⌜ Ran (roundOf list job (now (schedule .entry))) (job .positions * job .n) (r .round) (r .node) (now (new .exit)) (now (marks .exit)) ⌝ }
+{
+    let windows = &list[..];
+    let mut turn = begin;
+    while 0 < turn.left {
+        pass(
+            &windows[turn.first..turn.last],
+            turn,
+            old,
+            &mut new[..],
+            &mut marks[..],
+        );
+        turn = next(turn, job, schedule, &mut old[..], new);
+    }
+    turn
+}
+
+// Runs rounds from table 0, which is all zeros, until one changes nothing, or N of them. Row r of the marks is that of round r + 1.
+pub fn run(list: [layout::Window; 4608], job: Job, schedule: &[u8], marks: &mut [u32]) -> Ended
+    requires { ⌜ Posed job (now schedule) × Parts list (job .n) (job .start) (now schedule) (job .positions) × (length (now marks) ≡ 36864) ⌝ }
+    ensures { λ r. ⌜ Ran (roundOf list job (now (schedule .entry))) (job .positions * job .n) (r .rounds) (r .node) (r .times) (now (marks .exit)) ⌝ }
+{
+    let mut old = zeros();
+    let mut new = old;
+    let turns = job.positions * job.n * job.positions;
+    let begin = turn_at(turns, 0, 0, 0, job, schedule);
+    let end = walk(list, begin, job, schedule, &mut old, &mut new, marks);
     Ended {
-        rounds: r,
-        node: node,
-        times: cur,
+        rounds: end.round,
+        node: end.node,
+        times: new,
     }
 }

@@ -11,7 +11,7 @@ slice-aggregate-write-plan : tie.Need-slice-aggregate-write-plan
 slice-aggregate-write-plan c = search needs
 
 write-plan-requires : tie.Need-write-plan-requires
-write-plan-requires c κs = let s = c .before .before .before .before .before .before .before .before .before .before in (omega (arith, s .pre .1, slice-aggregate-write-plan (c .before)), s .pre .2)
+write-plan-requires c κs = let s = c .before .before .before .before .before .before .before in (omega (arith, s .pre .1, slice-aggregate-write-plan (c .before)), s .pre .2)
 
 same-length : tie.Need-same-length
 same-length c = search needs
@@ -20,7 +20,7 @@ returns : tie.Need-returns
 returns c = search needs
 
 refute-requires : tie.Need-refute-requires
-refute-requires c κs = let s = c .before .before .before .before .before .before .before .before in (s .pre .0 (c .before .if1 .left), s .pre .3)
+refute-requires c κs = let s = c .before .before .before .before .before in (s .pre .0 (c .before .if1 .left), s .pre .3)
 
 same-length-2 : tie.Need-same-length-2
 same-length-2 c = search needs

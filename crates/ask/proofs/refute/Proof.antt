@@ -18,7 +18,7 @@ slice-aggregate-back-3 : tie.Need-slice-aggregate-back-3
 slice-aggregate-back-3 c = search needs
 
 back-requires : tie.Need-back-requires
-back-requires c κs = let s = c .before .before .before .before .before .before .before .before in
+back-requires c κs = let s = c .before .before .before .before .before in
     record {
       led = s .pre .0;
       paths = omega (arith, s .pre .0 .few, length-replicate {A = ℕ} 192 0);
@@ -34,16 +34,16 @@ slice-aggregate-turn-2 : tie.Need-slice-aggregate-turn-2
 slice-aggregate-turn-2 c = search needs
 
 turn-requires : tie.Need-turn-requires
-turn-requires c κs = let b = c .before .before .before .before .before .before in let s = b .before .before .before .before .before .before .before .before .before in let a = s .args in
+turn-requires c κs = let b = c .before .before .before .before .before .before in let s = b .before .before .before .before .before .before in let a = s .args in
     let f = b .back .ensures in
-    let k = b .back .kept .1 .1 .1 .1 .1 .1 .1 .1 in
-    let x = b .back .last .1 .1 .1 .1 .1 .1 .1 .1 in (
+    let k = b .back .kept .1 .1 .1 .1 .1 .1 in
+    let x = b .back .last .1 .1 .1 .1 .1 .1 in (
       f .some,
       omega (arith, f .within, s .pre .0 .few),
       omega (arith, f .within, s .pre .0 .few, k .0, length-replicate {A = ℕ} 192 0),
       omega (arith, f .within, s .pre .0 .few, k .1 .0, length-replicate {A = ℕ} 193 0),
       omega (arith, f .within, s .pre .1),
-      found-shown (a .kind .now) (a .to .now) (a .from .now) (a .marks .now) (a .n) (a .positions) (a .nodes) (a .v) (x .0) (x .1 .0) (b .back .result .low) (b .back .result .high) (s .pre .0) f,
+      found-shown (a .list) (a .marks .now) (a .n) (a .positions) (a .nodes) (a .v) (x .0) (x .1 .0) (b .back .result .low) (b .back .result .high) (s .pre .0) f,
     )
 
 sub-result : tie.Need-sub-result
@@ -53,7 +53,7 @@ same-length : tie.Need-same-length
 same-length c = search needs
 
 returns : tie.Need-returns
-returns c = let t = c .before .before in let b = t .before .before .before .before .before .before .before in let x = b .back .last .1 .1 .1 .1 .1 .1 .1 .1 in
+returns c = let t = c .before .before in let b = t .before .before .before .before .before .before .before in let x = b .back .last .1 .1 .1 .1 .1 .1 in
     record {
       path = x .0;
       node = x .1 .0;

@@ -31,7 +31,7 @@ same-length : tie.Need-same-length
 same-length c = search needs
 
 returns : tie.Need-returns
-returns c = let a = c .args in four (a .circuit .now) (a .at) (a .kind) (a .position) (a .to) (a .from)
+returns c = let a = c .args in four (a .circuit .now) (a .at) (a .w .kind) (a .position) (a .w .to) (a .w .from)
 
 pub write-arc-spec : {M : Type 1} → statement M
 write-arc-spec =

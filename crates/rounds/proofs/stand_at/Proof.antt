@@ -11,35 +11,28 @@ use Rattle.rounds.proofs.stand_at.Tie as tie
 small : (g n : ℕ) → g ≤ 16 → n ≤ 12 → g * n ≤ 192
 small g n h k = mul-le-mul h k
 
+mul-here : tie.Need-mul-here
+mul-here c = omega (arith, small (c .args .g) (c .args .n) (omega arith) (c .pre .2))
+
+mul-mark : tie.Need-mul-mark
+mul-mark c = search needs
+
 add-if1 : tie.Need-add-if1
 add-if1 c = search needs
-
-mul-t7 : tie.Need-mul-t7
-mul-t7 c = let s = c .before in omega (arith, small (s .args .g) (s .args .n) (omega arith) (s .pre .2))
-
-mul-t8 : tie.Need-mul-t8
-mul-t8 c = search needs
 
 returns : tie.Need-returns
 unfolding standOf
 returns c = rw (eq-eqb _ _ (c .if1 .taken))
 
-mul-t5 : tie.Need-mul-t5
-mul-t5 c = let s = c .before in omega (arith, small (s .args .g) (s .args .n) (omega arith) (s .pre .2))
-
-add-t9 : tie.Need-add-t9
-add-t9 c = search needs
+add-t8 : tie.Need-add-t8
+add-t8 c = search needs
 
 mul-t10 : tie.Need-mul-t10
 mul-t10 c = let s = c .before in omega (arith, small (s .args .g + 1) (s .args .n) (omega arith) (s .pre .2))
-
-mul-t11 : tie.Need-mul-t11
-mul-t11 c = search needs
 
 returns-2 : tie.Need-returns-2
 unfolding standOf
 returns-2 c = rw (ne-eqb _ _ (c .if1 .left))
 
 pub stand-at-spec : {M : Type 1} → statement M
-stand-at-spec =
-    tie.close (tie.spec add-if1 mul-t7 mul-t8 returns mul-t5 add-t9 mul-t10 mul-t11 returns-2)
+stand-at-spec = tie.close (tie.spec mul-here mul-mark add-if1 returns add-t8 mul-t10 returns-2)

@@ -7,7 +7,7 @@ use Rattle.report.proofs.tell.tell_found.Statement.{statement}
 use Rattle.report.proofs.tell.tell_found.Tie as tie
 use Rattle.report.proofs.tell.tell_found.Reads as reads
 use Rattle.report.proofs.tell.tell_found.Lts as lts
-use Rattle.report.proofs.lines.put_found.Reads as put-found-reads
+use Rattle.lines.proofs.put_found.Reads as put-found-reads
 use Rattle.report.proofs.tell.tell_plan.Reads as tell-plan-reads
 
 -- src/tell.rt:61:9

@@ -10,7 +10,7 @@ use Rattle.report.proofs.tell.tell_plan.Tie as tie
 use Rattle.report.proofs.tell.tell_plan.Reads as reads
 use Rattle.report.proofs.tell.tell_plan.Lts as lts
 use Rattle.ask.proofs.ask.Reads as ask-reads
-use Rattle.report.proofs.lines.put_plan.Reads as put-plan-reads
+use Rattle.lines.proofs.put_plan.Reads as put-plan-reads
 
 -- src/tell.rt:35:11
 ask-requires : tie.Need-ask-requires

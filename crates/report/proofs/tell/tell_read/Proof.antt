@@ -11,7 +11,7 @@ use Rattle.report.proofs.tell.tell_read.Statement.{statement}
 use Rattle.report.proofs.tell.tell_read.Tie as tie
 use Rattle.report.proofs.tell.tell_read.Reads as reads
 use Rattle.report.proofs.tell.tell_read.Lts as lts
-use Rattle.report.proofs.lines.put_refused.Reads as put-refused-reads
+use Rattle.lines.proofs.put_refused.Reads as put-refused-reads
 use Rattle.report.proofs.tell.tell_admitted.Reads as tell-admitted-reads
 use Rattle.sheet.proofs.read_sheet.Reads as read-sheet-reads
 

@@ -8,7 +8,7 @@ use Rattle.report.proofs.tell.tell_sheet.Tie as tie
 use Rattle.report.proofs.tell.tell_sheet.Reads as reads
 use Rattle.report.proofs.tell.tell_sheet.Lts as lts
 use Rattle.ends.proofs.ends.Reads as ends-reads
-use Rattle.report.proofs.lines.put_none.Reads as put-none-reads
+use Rattle.lines.proofs.put_none.Reads as put-none-reads
 use Rattle.report.proofs.tell.tell_found.Reads as tell-found-reads
 
 -- src/tell.rt:93:11

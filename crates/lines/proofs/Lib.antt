@@ -1,0 +1,4 @@
+pub mod Lengths
+pub mod Spelled
+pub mod Turns
+pub mod Texts

@@ -1,0 +1,52 @@
+-- `lines::put_circuit` meets its contract: the word, the count, the feed, the arcs.
+use Rattle.text.proofs.Puts.{puts-then}
+use native.Mathlib.Omega.{arith}
+use borrow.Author.Needs.{needs}
+use Rattle.lines.proofs.put_circuit.Statement.{statement}
+use Rattle.lines.proofs.put_circuit.Tie as tie
+use Rattle.lines.proofs.put_circuit.Reads as reads
+use Rattle.lines.proofs.put_circuit.Lts as lts
+use Rattle.lines.proofs.put_arcs.Reads as put-arcs-reads
+use Rattle.lines.proofs.put_spaced.Reads as put-spaced-reads
+use Rattle.text.proofs.put_byte.Reads as put-byte-reads
+use Rattle.text.proofs.put_word.Reads as put-word-reads
+
+-- src/lib.rt:64:9
+put-word-requires : tie.Need-put-word-requires
+put-word-requires c κs = search needs
+
+-- src/lib.rt:65:9
+put-spaced-requires : tie.Need-put-spaced-requires
+put-spaced-requires c κs = search needs
+
+-- src/lib.rt:66:9
+put-byte-requires : tie.Need-put-byte-requires
+put-byte-requires c κs = search needs
+
+-- src/lib.rt:67:5
+put-arcs-requires : tie.Need-put-arcs-requires
+put-arcs-requires c κs = search needs
+
+-- src/lib.rt:60:1
+same-length : tie.Need-same-length
+same-length c = search needs
+
+-- src/lib.rt:60:1
+returns : tie.Need-returns
+returns c =
+    let a = c .before .before .before .before .before .before .before .before .before .before .before .before .before .before .put-word .ensures in
+    let b = c .before .before .before .before .before .before .before .before .before .before .put-spaced .ensures in
+    let d = c .before .before .before .before .before .before .put-byte .ensures in
+    let e = c .before .before .put-arcs .ensures in
+    (omega (arith, a .next-is, b .0, d .next-is, e .0, c .before .before .before .before .before .before .before .before .before .before .before .before .before .before .before .before .before .before .before .pre .1), puts-then (puts-then a (puts-then (b .1) d)) (e .1))
+
+pub put-circuit-spec : {M : Type 1} → statement M
+put-circuit-spec =
+    tie.close
+    (tie.spec
+    put-word-requires
+    put-spaced-requires
+    put-byte-requires
+    put-arcs-requires
+    same-length
+    returns)

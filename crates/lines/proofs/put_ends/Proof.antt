@@ -1,0 +1,69 @@
+-- `lines::put_ends` meets its contract, word by word.
+use Rattle.text.proofs.Puts.{puts-then}
+use native.Mathlib.Omega.{arith}
+use borrow.Author.Needs.{needs}
+use Rattle.lines.proofs.put_ends.Statement.{statement}
+use Rattle.lines.proofs.put_ends.Tie as tie
+use Rattle.lines.proofs.put_ends.Reads as reads
+use Rattle.lines.proofs.put_ends.Lts as lts
+use Rattle.lines.proofs.put_fraction.Reads as put-fraction-reads
+use Rattle.lines.proofs.put_highest.Reads as put-highest-reads
+use Rattle.text.proofs.put_byte.Reads as put-byte-reads
+use Rattle.text.proofs.put_word.Reads as put-word-reads
+
+-- src/lib.rt:95:36
+slice-aggregate-put-word : tie.Need-slice-aggregate-put-word
+slice-aggregate-put-word c = search needs
+
+-- src/lib.rt:95:9
+put-word-requires : tie.Need-put-word-requires
+put-word-requires c κs = search needs
+
+-- src/lib.rt:96:9
+put-byte-requires : tie.Need-put-byte-requires
+put-byte-requires c κs = search needs
+
+-- src/lib.rt:97:9
+put-fraction-requires : tie.Need-put-fraction-requires
+put-fraction-requires c κs = search needs
+
+-- src/lib.rt:98:9
+put-byte-requires-2 : tie.Need-put-byte-requires-2
+put-byte-requires-2 c κs = search needs
+
+-- src/lib.rt:99:9
+put-highest-requires : tie.Need-put-highest-requires
+put-highest-requires c κs = search needs
+
+-- src/lib.rt:100:5
+put-byte-requires-3 : tie.Need-put-byte-requires-3
+put-byte-requires-3 c κs = search needs
+
+-- src/lib.rt:92:1
+same-length : tie.Need-same-length
+same-length c = search needs
+
+-- src/lib.rt:92:1
+returns : tie.Need-returns
+returns c =
+    let a = c .before .before .before .before .before .before .before .before .before .before .before .before .before .before .before .before .before .before .before .before .before .before .put-word .ensures in
+    let b = c .before .before .before .before .before .before .before .before .before .before .before .before .before .before .before .before .before .before .put-byte .ensures in
+    let d = c .before .before .before .before .before .before .before .before .before .before .before .before .before .before .put-fraction .ensures in
+    let e = c .before .before .before .before .before .before .before .before .before .before .put-byte2 .ensures in
+    let f = c .before .before .before .before .before .before .put-highest .ensures in
+    let g = c .before .before .put-byte3 .ensures in
+    (omega (arith, a .next-is, b .next-is, d .0, e .next-is, f .0, g .next-is), puts-then a (puts-then b (puts-then (d .1) (puts-then e (puts-then (f .1) g)))))
+
+pub put-ends-spec : {M : Type 1} → statement M
+put-ends-spec =
+    tie.close
+    (tie.spec
+    slice-aggregate-put-word
+    put-word-requires
+    put-byte-requires
+    put-fraction-requires
+    put-byte-requires-2
+    put-highest-requires
+    put-byte-requires-3
+    same-length
+    returns)

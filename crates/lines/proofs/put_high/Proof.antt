@@ -1,0 +1,50 @@
+-- `lines::put_high` meets its contract: nothing where the end is open.
+use Rattle.lines.proofs.Texts.{open-lines, high-lines}
+use Rattle.text.proofs.Puts.{nothing-puts}
+use native.Mathlib.Omega.{arith}
+use borrow.Author.Needs.{needs}
+use Rattle.lines.proofs.put_high.Statement.{statement}
+use Rattle.lines.proofs.put_high.Tie as tie
+use Rattle.lines.proofs.put_high.Reads as reads
+use Rattle.lines.proofs.put_high.Lts as lts
+use Rattle.lines.proofs.put_circuit.Reads as put-circuit-reads
+
+-- src/lib.rt:109:23
+enum-told : tie.Need-enum-told
+enum-told c = search needs
+
+-- src/lib.rt:110:42
+enum-told-2 : tie.Need-enum-told-2
+enum-told-2 c = search needs
+
+-- src/lib.rt:110:51
+slice-aggregate-put-circuit : tie.Need-slice-aggregate-put-circuit
+slice-aggregate-put-circuit c = search needs
+
+-- src/lib.rt:110:30
+put-circuit-requires : tie.Need-put-circuit-requires
+put-circuit-requires c κs = search needs
+
+-- src/lib.rt:104:1
+returns : tie.Need-returns
+returns c = let a = c .before .before .before .before .args in (omega arith, open-lines _ _ _ (c .enum-told .given .1) (nothing-puts (a .out .now) (a .at)))
+
+-- src/lib.rt:104:1
+same-length : tie.Need-same-length
+same-length c = search needs
+
+-- src/lib.rt:104:1
+returns-2 : tie.Need-returns-2
+returns-2 c = let e = c .before .before .put-circuit .ensures in (e .0, high-lines _ _ _ _ _ (c .before .before .before .before .before .enum-told2 .given .1) (e .1))
+
+pub put-high-spec : {M : Type 1} → statement M
+put-high-spec =
+    tie.close
+    (tie.spec
+    enum-told
+    enum-told-2
+    slice-aggregate-put-circuit
+    put-circuit-requires
+    returns
+    same-length
+    returns-2)

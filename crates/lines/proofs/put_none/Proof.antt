@@ -1,0 +1,61 @@
+-- `lines::put_none` meets its contract.
+use Rattle.text.proofs.Puts.{puts-then}
+use borrow.Author.Needs.{needs}
+use Rattle.lines.proofs.put_none.Statement.{statement}
+use Rattle.lines.proofs.put_none.Tie as tie
+use Rattle.lines.proofs.put_none.Reads as reads
+use Rattle.lines.proofs.put_none.Lts as lts
+use Rattle.lines.proofs.put_circuit.Reads as put-circuit-reads
+use Rattle.text.proofs.put_byte.Reads as put-byte-reads
+use Rattle.text.proofs.put_word.Reads as put-word-reads
+
+-- src/lib.rt:186:36
+slice-aggregate-put-word : tie.Need-slice-aggregate-put-word
+slice-aggregate-put-word c = search needs
+
+-- src/lib.rt:186:9
+put-word-requires : tie.Need-put-word-requires
+put-word-requires c κs = search needs
+
+-- src/lib.rt:187:9
+put-byte-requires : tie.Need-put-byte-requires
+put-byte-requires c κs = search needs
+
+-- src/lib.rt:188:33
+slice-aggregate-put-circuit : tie.Need-slice-aggregate-put-circuit
+slice-aggregate-put-circuit c = search needs
+
+-- src/lib.rt:188:9
+put-circuit-requires : tie.Need-put-circuit-requires
+put-circuit-requires c κs = search needs
+
+-- src/lib.rt:189:25
+slice-aggregate-put-circuit-2 : tie.Need-slice-aggregate-put-circuit-2
+slice-aggregate-put-circuit-2 c = search needs
+
+-- src/lib.rt:189:5
+put-circuit-requires-2 : tie.Need-put-circuit-requires-2
+put-circuit-requires-2 c κs = search needs
+
+-- src/lib.rt:182:1
+same-length : tie.Need-same-length
+same-length c = search needs
+
+-- src/lib.rt:182:1
+returns : tie.Need-returns
+returns c =
+    puts-then (puts-then (c .before .before .before .before .before .before .before .before .before .before .before .before .before .before .before .before .put-word .ensures) (c .before .before .before .before .before .before .before .before .before .before .before .before .put-byte .ensures)) (puts-then (c .before .before .before .before .before .before .before .put-circuit .ensures .1) (c .before .before .put-circuit2 .ensures .1))
+
+pub put-none-spec : {M : Type 1} → statement M
+put-none-spec =
+    tie.close
+    (tie.spec
+    slice-aggregate-put-word
+    put-word-requires
+    put-byte-requires
+    slice-aggregate-put-circuit
+    put-circuit-requires
+    slice-aggregate-put-circuit-2
+    put-circuit-requires-2
+    same-length
+    returns)

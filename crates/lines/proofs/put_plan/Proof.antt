@@ -1,0 +1,57 @@
+-- `lines::put_plan` meets its contract.
+use Rattle.text.proofs.Puts.{puts-then}
+use borrow.Author.Needs.{needs}
+use Rattle.lines.proofs.put_plan.Statement.{statement}
+use Rattle.lines.proofs.put_plan.Tie as tie
+use Rattle.lines.proofs.put_plan.Reads as reads
+use Rattle.lines.proofs.put_plan.Lts as lts
+use Rattle.lines.proofs.put_positions.Reads as put-positions-reads
+use Rattle.lines.proofs.put_spaced.Reads as put-spaced-reads
+use Rattle.text.proofs.put_byte.Reads as put-byte-reads
+use Rattle.text.proofs.put_word.Reads as put-word-reads
+
+-- src/lib.rt:164:37
+slice-aggregate-put-word : tie.Need-slice-aggregate-put-word
+slice-aggregate-put-word c = search needs
+
+-- src/lib.rt:164:9
+put-word-requires : tie.Need-put-word-requires
+put-word-requires c κs = search needs
+
+-- src/lib.rt:165:9
+put-spaced-requires : tie.Need-put-spaced-requires
+put-spaced-requires c κs = search needs
+
+-- src/lib.rt:166:9
+put-spaced-requires-2 : tie.Need-put-spaced-requires-2
+put-spaced-requires-2 c κs = search needs
+
+-- src/lib.rt:167:9
+put-byte-requires : tie.Need-put-byte-requires
+put-byte-requires c κs = search needs
+
+-- src/lib.rt:168:5
+put-positions-requires : tie.Need-put-positions-requires
+put-positions-requires c κs = search needs
+
+-- src/lib.rt:152:1
+same-length : tie.Need-same-length
+same-length c = search needs
+
+-- src/lib.rt:152:1
+returns : tie.Need-returns
+returns c =
+    puts-then (puts-then (c .before .before .before .before .before .before .before .before .before .before .before .before .before .before .before .before .before .before .put-word .ensures) (puts-then (c .before .before .before .before .before .before .before .before .before .before .before .before .before .before .put-spaced .ensures .1) (puts-then (c .before .before .before .before .before .before .before .before .before .before .put-spaced2 .ensures .1) (c .before .before .before .before .before .before .put-byte .ensures)))) (c .before .before .put-positions .ensures)
+
+pub put-plan-spec : {M : Type 1} → statement M
+put-plan-spec =
+    tie.close
+    (tie.spec
+    slice-aggregate-put-word
+    put-word-requires
+    put-spaced-requires
+    put-spaced-requires-2
+    put-byte-requires
+    put-positions-requires
+    same-length
+    returns)

@@ -1,0 +1,29 @@
+-- `lines::put_spaced` meets its contract.
+use native.Mathlib.Omega.{arith}
+use Rattle.text.proofs.Puts.{puts-then}
+use borrow.Author.Needs.{needs}
+use Rattle.lines.proofs.put_spaced.Statement.{statement}
+use Rattle.lines.proofs.put_spaced.Tie as tie
+use Rattle.lines.proofs.put_spaced.Reads as reads
+use Rattle.lines.proofs.put_spaced.Lts as lts
+use Rattle.text.proofs.put_byte.Reads as put-byte-reads
+use Rattle.text.proofs.put_number.Reads as put-number-reads
+
+-- src/lib.rt:24:9
+put-byte-requires : tie.Need-put-byte-requires
+put-byte-requires c κs = search needs
+
+-- src/lib.rt:25:5
+put-number-requires : tie.Need-put-number-requires
+put-number-requires c κs = search needs
+
+-- src/lib.rt:20:1
+same-length : tie.Need-same-length
+same-length c = search needs
+
+-- src/lib.rt:20:1
+returns : tie.Need-returns
+returns c = (omega (arith, c .before .before .before .before .before .before .put-byte .ensures .next-is, c .before .before .put-number .ensures .0), puts-then (c .before .before .before .before .before .before .put-byte .ensures) (c .before .before .put-number .ensures .1))
+
+pub put-spaced-spec : {M : Type 1} → statement M
+put-spaced-spec = tie.close (tie.spec put-byte-requires put-number-requires same-length returns)

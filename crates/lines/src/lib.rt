@@ -1,0 +1,208 @@
+// The lines of a report, put one after the other into a buffer: each function puts its text from a place on and gives the place after it.
+// This crate knows how the answers are spelled; it knows no call that gives them.
+// It renders the lines of document 01's "The report".
+use ends::High;
+ghost use mathlib.Core.List.{[], _∷_, map};
+ghost use Prim.Native.Nat.{_+_, _*_, _≤_, _<_};
+ghost use lib.ListN.{length, take, drop};
+ghost use Rattle.text.specs.Text.{decimal, space, Puts};
+ghost use Rattle.ends.specs.Answers.{highest};
+ghost use Rattle.lines.specs.Lines.{following, fraction, highSpelled, numbersLine, refusedLine};
+ghost use Rattle.lines.specs.Held.{fourLine, arcLines, circuitText, highText, timesLines, planText, endsText, foundText, noneText};
+
+const SPACE: u8 = 32;
+
+const FEED: u8 = 10;
+
+const SLASH: u8 = 47;
+
+// A space and a number.
+fn put_spaced(out: &mut [u8], at: usize, value: u64) -> usize
+    requires { ⌜ at < 800000 ⌝ }
+    ensures { λ r. ⌜ (r ≤ at + 21) × Puts (now (out .entry)) at (space ∷ decimal value) r (now (out .exit)) ⌝ }
+{
+    let next = text::put_byte(out, at, SPACE);
+    text::put_number(out, next, value)
+}
+
+// An arc: kind, position, to, from.
+fn put_arc(out: &mut [u8], at: usize, kind: u8, position: u8, to: u8, from: u8) -> usize
+    requires { ⌜ at < 700000 ⌝ }
+    ensures { λ r. ⌜ (r ≤ at + 84) × Puts (now (out .entry)) at (fourLine kind position to from) r (now (out .exit)) ⌝ }
+{
+    let a = text::put_number(out, at, kind as u64);
+    let b = put_spaced(out, a, position as u64);
+    let c = put_spaced(out, b, to as u64);
+    let d = put_spaced(out, c, from as u64);
+    text::put_byte(out, d, FEED)
+}
+
+// The arcs of a circuit, one a line.
+fn put_arcs(out: &mut [u8], at: usize, circuit: &[u8], count: usize) -> usize
+    requires { ⌜ (at < 600000) × (count ≤ 192) × (4 * count ≤ length (now circuit)) ⌝ }
+    ensures { λ r. ⌜ (r ≤ at + 16128) × Puts (now (out .entry)) at (arcLines (now (circuit .entry)) count) r (now (out .exit)) ⌝ }
+{
+    let mut next = at;
+    let mut k: usize = 0;
+    while k < count {
+        let a = 4 * k;
+        let kind = circuit[a];
+        let position = circuit[a + 1];
+        let to = circuit[a + 2];
+        let from = circuit[a + 3];
+        next = put_arc(out, next, kind, position, to, from);
+        k += 1;
+    }
+    next
+}
+
+// A circuit: a word and the arc count, then its arcs.
+fn put_circuit(out: &mut [u8], at: usize, word: &[u8], circuit: &[u8], count: usize) -> usize
+    requires { ⌜ (at < 500000) × (length (now word) ≤ 100) × (count ≤ 192) × (4 * count ≤ length (now circuit)) ⌝ }
+    ensures { λ r. ⌜ (r ≤ at + 16250) × Puts (now (out .entry)) at (circuitText (now (word .entry)) (now (circuit .entry)) count) r (now (out .exit)) ⌝ }
+{
+    let a = text::put_word(out, at, word);
+    let b = put_spaced(out, a, count as u64);
+    let c = text::put_byte(out, b, FEED);
+    put_arcs(out, c, circuit, count)
+}
+
+// A fraction, as 5/1.
+fn put_fraction(out: &mut [u8], at: usize, top: u64, bottom: u64) -> usize
+    requires { ⌜ at < 800000 ⌝ }
+    ensures { λ r. ⌜ (r ≤ at + 41) × Puts (now (out .entry)) at (fraction top bottom) r (now (out .exit)) ⌝ }
+{
+    let a = text::put_number(out, at, top);
+    let b = text::put_byte(out, a, SLASH);
+    text::put_number(out, b, bottom)
+}
+
+// The highest cycle time, or that there is none.
+fn put_highest(out: &mut [u8], at: usize, high: High) -> usize
+    requires { ⌜ at < 800000 ⌝ }
+    ensures { λ r. ⌜ (r ≤ at + 41) × Puts (now (out .entry)) at (highSpelled (highest high)) r (now (out .exit)) ⌝ }
+{
+    match high {
+        High::Open => text::put_word(out, at, b"open"),
+        High::UpTo { top, bottom } => put_fraction(out, at, top, bottom),
+    }
+}
+
+// The first line of a sheet with ends.
+fn put_ends(out: &mut [u8], top: u64, bottom: u64, high: High) -> usize
+    ensures { λ r. ⌜ (r ≤ 100) × Puts (now (out .entry)) 0 (endsText top bottom (highest high)) r (now (out .exit)) ⌝ }
+{
+    let a = text::put_word(out, 0, b"ends");
+    let b = text::put_byte(out, a, SPACE);
+    let c = put_fraction(out, b, top, bottom);
+    let d = text::put_byte(out, c, SPACE);
+    let e = put_highest(out, d, high);
+    text::put_byte(out, e, FEED)
+}
+
+// The circuit of the highest cycle time, only if that is not open.
+fn put_high(out: &mut [u8], at: usize, high: High, circuit: &[u8], count: usize) -> usize
+    requires { ⌜ (at < 400000) × (count ≤ 192) × (4 * count ≤ length (now circuit)) ⌝ }
+    ensures { λ r. ⌜ (r ≤ at + 16250) × Puts (now (out .entry)) at (highText (highest high) (now (circuit .entry)) count) r (now (out .exit)) ⌝ }
+{
+    match high {
+        High::Open => at,
+        High::UpTo { .. } => put_circuit(out, at, b"high", circuit, count),
+    }
+}
+
+// n times of a plan from the place a on, each after a space, and the line's end.
+fn put_following(out: &mut [u8], at: usize, plan: &[u64], a: usize, n: usize) -> usize
+    requires { ⌜ (at < 700000) × (n ≤ 12) × (a + n ≤ length (now plan)) ⌝ }
+    ensures { λ r. ⌜ (r ≤ at + n * 21 + 1) × Puts (now (out .entry)) at (following (map decimal (take n (drop a (now (plan .entry)))))) r (now (out .exit)) ⌝ }
+{
+    let mut next = at;
+    let mut k: usize = 0;
+    while k < n {
+        next = put_spaced(out, next, plan[a + k]);
+        k += 1;
+    }
+    text::put_byte(out, next, FEED)
+}
+
+// n times of a plan from the place a on, as one line.
+fn put_times(out: &mut [u8], at: usize, plan: &[u64], a: usize, n: usize) -> usize
+    requires { ⌜ (at < 600000) × (1 ≤ n) × (n ≤ 12) × (a + n ≤ length (now plan)) ⌝ }
+    ensures { λ r. ⌜ (r ≤ at + 252) × Puts (now (out .entry)) at (numbersLine (take n (drop a (now (plan .entry))))) r (now (out .exit)) ⌝ }
+{
+    let next = text::put_number(out, at, plan[a]);
+    put_following(out, next, plan, a + 1, n - 1)
+}
+
+// The times of a plan, one line per position.
+fn put_positions(out: &mut [u8], at: usize, plan: &[u64], n: usize, positions: usize) -> usize
+    requires { ⌜ (at < 500000) × (1 ≤ n) × (n ≤ 12) × (positions ≤ 16) × (positions * n ≤ length (now plan)) ⌝ }
+    ensures { λ r. ⌜ Puts (now (out .entry)) at (timesLines (now (plan .entry)) n positions) r (now (out .exit)) ⌝ }
+{
+    let mut next = at;
+    let mut g: usize = 0;
+    while g < positions {
+        next = put_times(out, next, plan, g * n, n);
+        g += 1;
+    }
+    next
+}
+
+// The plan: q and rounds, then its times.
+pub fn put_plan(
+    out: &mut [u8],
+    at: usize,
+    q: u64,
+    rounds: u64,
+    plan: &[u64],
+    n: usize,
+    positions: usize,
+) -> usize
+    requires { ⌜ (at < 400000) × (1 ≤ n) × (n ≤ 12) × (positions ≤ 16) × (positions * n ≤ length (now plan)) ⌝ }
+    ensures { λ r. ⌜ Puts (now (out .entry)) at (planText q rounds (now (plan .entry)) n positions) r (now (out .exit)) ⌝ }
+{
+    let a = text::put_word(out, at, b"plan");
+    let b = put_spaced(out, a, q);
+    let c = put_spaced(out, b, rounds);
+    let d = text::put_byte(out, c, FEED);
+    put_positions(out, d, plan, n, positions)
+}
+
+// A sheet with ends: these and the circuits that show them.
+pub fn put_found(
+    out: &mut [u8],
+    top: u64,
+    bottom: u64,
+    high: High,
+    first: &[u8],
+    arcs: usize,
+    second: &[u8],
+    others: usize,
+) -> usize
+    requires { ⌜ (arcs ≤ 192) × (others ≤ 192) × (4 * arcs ≤ length (now first)) × (4 * others ≤ length (now second)) ⌝ }
+    ensures { λ r. ⌜ (r ≤ 40000) × Puts (now (out .entry)) 0 (foundText top bottom (highest high) (now (first .entry)) arcs (now (second .entry)) others) r (now (out .exit)) ⌝ }
+{
+    let a = put_ends(out, top, bottom, high);
+    let b = put_circuit(out, a, b"low", first, arcs);
+    put_high(out, b, high, second, others)
+}
+
+// A sheet without ends: the circuits that show it.
+pub fn put_none(out: &mut [u8], first: &[u8], arcs: usize, second: &[u8], others: usize) -> usize
+    requires { ⌜ (arcs ≤ 192) × (others ≤ 192) × (4 * arcs ≤ length (now first)) × (4 * others ≤ length (now second)) ⌝ }
+    ensures { λ r. ⌜ Puts (now (out .entry)) 0 (noneText (now (first .entry)) arcs (now (second .entry)) others) r (now (out .exit)) ⌝ }
+{
+    let a = text::put_word(out, 0, b"none");
+    let b = text::put_byte(out, a, FEED);
+    let c = put_circuit(out, b, b"first", first, arcs);
+    put_circuit(out, c, b"second", second, others)
+}
+
+// A refusal.
+pub fn put_refused(out: &mut [u8], number: u8) -> usize
+    ensures { λ r. ⌜ Puts (now (out .entry)) 0 (refusedLine number) r (now (out .exit)) ⌝ }
+{
+    let a = text::put_word(out, 0, b"refused");
+    let b = put_spaced(out, a, number as u64);
+    text::put_byte(out, b, FEED)
+}
