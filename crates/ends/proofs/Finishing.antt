@@ -19,10 +19,12 @@ use Rattle.windows.specs.Circuits.{numbers, CircuitOf}
 use Rattle.windows.proofs.Limits.{sheet-laid, nodes-few}
 use Rattle.ends.specs.Ends as ends
 use Rattle.ends.specs.Ends.{roomy, endsRefusal, Holds, Outcome}
-use Rattle.search.specs.Copies.{copied}
-use Rattle.search.specs.Climbs.{Held, OneHeld, TwoHeld}
+use Rattle.search.specs.Copies.{copied, Fits}
+use Rattle.search.specs.Climbs.{Held, heldArcs, OneHeld, TwoHeld}
 use Rattle.search.specs.Searches.{Stands, Rests, Overhead, Descends, Fresh, Climbs}
-use Rattle.ends.specs.Answers.{FindReady, LowReady}
+use Rattle.ends.specs.Answers.{highest, FindReady, LowReady, HighReady, HighFound}
+use Rattle.ends.specs.declared.High.the-variants as high
+use Rattle.ends.specs.declared.Highest.{Highest}
 use Rattle.search.specs.declared.Stand.{Stand}
 use Rattle.search.specs.declared.Climbed.{Climbed}
 use Rattle.search.specs.declared.Climbed.the-variants as climbed
@@ -60,10 +62,11 @@ held-few s buffer count ok h = go (h .circuit)
     go (inr c) = count-few s ok (h .steps) (h .rest) buffer count c (h .counted) (h .starts)
 
 -- what a copy asks
-pub hand-ready : (s : Sheet) (buffer : List ℕ) (count : ℕ) (out : List ℕ) → refusal s ≡ 0 → Held s buffer count → length buffer ≡ 768 → 4 * nodes s ≤ length out
-    → (4 * count ≤ length buffer) × (4 * count ≤ length out)
+pub hand-ready : (s : Sheet) (buffer : List ℕ) (count : ℕ) (out : List ℕ) → refusal s ≡ 0 → Held s buffer count → length buffer ≡ 768 → 4 * nodes s ≤ length out → Fits count buffer out
 hand-ready s buffer count out ok h room enough =
-    (omega (arith, held-few s buffer count ok h, nodes-few s (accepted s ok)), omega (arith, held-few s buffer count ok h))
+    let few = held-few s buffer count ok h in
+    let all = nodes-few s (accepted s ok) in
+    (omega (arith, few, all), omega (arith, few, all), omega (arith, few))
 
 abbrev pub handed : (s : Sheet) (buffer : List ℕ) (count : ℕ) (h : Held s buffer count) (out after : List ℕ) → after ≡ copied buffer (4 * count) out → Holds s out count after
 handed s buffer count h out after e =
@@ -102,54 +105,82 @@ module _ (s : Sheet) (first₀ second₀ : List ℕ) (none : endsRefusal s first
     },
   )
 
-  module _ (at : Stand) (low found : List ℕ) (works : Works (arcs s) (at .top) (at .bottom)) (stands : Stands s at low found) (first : List ℕ) (e : first ≡ copied low (4 * at .arcs) first₀) where
-    pub finds-open : Works (arcs s) 192000001 1 → Outcome s first₀ second₀ (ends.found (at .top) (at .bottom) open-end (at .arcs) 0) first second₀
-    finds-open top =
-        let l = stands .held .low in (
-          none,
-          record {
-            range = range-runs s (ok .size .some-positions) (at .top) (at .bottom) open-end
-                (open-range (nodes s) 1000000 (s .n) (arcs s) (sheet-laid s ok) (at .top) (at .bottom) 192000001 (l .positive) (l .lowest) works (l .least) (omega (arith, mul-le-mul-right 1000000 (nodes-few s ok))) top);
-            bottom-small = l .few;
-            high-small = λ c d same. let z : _≡_ {A = ℕ} 0 1 = cc in absurd (omega arith);
-            first-holds = handed s low (at .arcs) (stands .held .held) first₀ first e;
-            second-holds = unhanded s second₀;
-            low-shown = l .shown;
-            high-shown = no-limit;
-          },
-        )
+-- ---- high, where low is known
 
-    pub finds-high : (top : Stand) (high found′ : List ℕ) → Rests s top high found′ → (second : List ℕ) → second ≡ copied high (4 * top .arcs) second₀
-        → Outcome s first₀ second₀ (ends.found (at .top) (at .bottom) (up-to (top .top) (top .bottom)) (at .arcs) (top .arcs)) first second
-    finds-high top high found′ r second f =
-        let l = stands .held .low in
-        let t = r .held .top-is in (
-          none,
-          record {
-            range = range-runs s (ok .size .some-positions) (at .top) (at .bottom) (up-to (top .top) (top .bottom))
-                (closed-range (nodes s) 1000000 (s .n) (arcs s) (sheet-laid s ok) (at .top) (at .bottom) (top .top) (top .bottom) (l .positive) (t .positive) (l .lowest) (t .lowest) works (r .works) (l .least) (t .most));
-            bottom-small = l .few;
-            high-small = λ c d same. let e : top .bottom ≡ d = cc in omega (arith, t .few);
-            first-holds = handed s low (at .arcs) (stands .held .held) first₀ first e;
-            second-holds = handed s high (top .arcs) (r .held .held) second₀ second f;
-            low-shown = l .shown;
-            high-shown = t .shown;
-          },
-        )
+module _ (s : Sheet) (at : Stand) (room found second₀ : List ℕ) (h : HighReady s at room found second₀) where
+  known : Admitted s
+  known = accepted s (h .admitted)
 
--- before the descent
-pub low-overhead : (s : Sheet) (at : Stand) (low high found first second : List ℕ) → LowReady s at low high found first second → Overhead s at high found
-low-overhead s at low high found first second h =
-    let ok = accepted s (h .stands .admitted) in
-    let l = h .stands .held .low in
+  pub high-overhead : Overhead s at room found
+  high-overhead =
+      record {
+        admitted = h .admitted;
+        positive = h .low .positive;
+        small = omega (arith, h .low .small, mul-le-mul-right 1000000 (nodes-few s known));
+        works = h .works;
+        high-room = h .high-room;
+        found-room = h .found-room;
+      }
+
+  pub high-open : Works (arcs s) 192000001 1 → HighFound s at second₀ (record { high = high.Open; arcs = 0 }) second₀
+  high-open top =
+      let l = h .low in
+      record {
+        range = range-runs s (known .size .some-positions) (at .top) (at .bottom) open-end
+            (open-range (nodes s) 1000000 (s .n) (arcs s) (sheet-laid s known) (at .top) (at .bottom) 192000001 (l .positive) (l .lowest) (h .works) (l .least) (omega (arith, mul-le-mul-right 1000000 (nodes-few s known))) top);
+        high-small = λ c d same. let z : _≡_ {A = ℕ} 0 1 = cc in absurd (omega arith);
+        holds = unhanded s second₀;
+        shown = no-limit;
+      }
+
+  module _ (top : Stand) (room′ found′ : List ℕ) (r : Rests s top room′ found′) where
+    pub high-fits : Fits (top .arcs) room′ second₀
+    high-fits = hand-ready s room′ (top .arcs) second₀ (h .admitted) (r .held .held) (r .high-room) (h .second-room)
+
+    pub high-up-to : (second : List ℕ) → second ≡ copied room′ (4 * top .arcs) second₀ → HighFound s at second₀ (record { high = high.UpTo (top .top) (top .bottom); arcs = top .arcs }) second
+    high-up-to second e =
+        let l = h .low in
+        let t = r .held .top-is in
+        record {
+          range = range-runs s (known .size .some-positions) (at .top) (at .bottom) (up-to (top .top) (top .bottom))
+              (closed-range (nodes s) 1000000 (s .n) (arcs s) (sheet-laid s known) (at .top) (at .bottom) (top .top) (top .bottom) (l .positive) (t .positive) (l .lowest) (t .lowest) (h .works) (r .works) (l .least) (t .most));
+          high-small = λ c d same. let e : top .bottom ≡ d = cc in omega (arith, t .few);
+          holds = handed s room′ (top .arcs) (r .held .held) second₀ second e;
+          shown = t .shown;
+        }
+
+-- ---- both
+
+module _ (s : Sheet) (at : Stand) (low found first₀ second₀ : List ℕ) (h : LowReady s at low found first₀ second₀) where
+  pub low-fits : Fits (at .arcs) low first₀
+  low-fits = hand-ready s low (at .arcs) first₀ (h .stands .admitted) (h .stands .held .held) (h .stands .low-room) (granted s first₀ second₀ (h .unrefused) .first-room)
+
+  pub low-high : HighReady s at low found second₀
+  low-high =
+      record {
+        admitted = h .stands .admitted;
+        works = h .works;
+        circuit = heldArcs s (h .stands .held .held);
+        low = h .stands .held .low;
+        high-room = h .stands .low-room;
+        found-room = h .stands .found-room;
+        second-room = granted s first₀ second₀ (h .unrefused) .second-room;
+      }
+
+  pub finds : (first : List ℕ) → first ≡ copied low (4 * at .arcs) first₀ → (r : Highest) (second : List ℕ) → HighFound s at second₀ r second
+      → Outcome s first₀ second₀ (ends.found (at .top) (at .bottom) (highest (r .high)) (at .arcs) (r .arcs)) first second
+  finds first e r second f = (
+    h .unrefused,
     record {
-      admitted = h .stands .admitted;
-      positive = l .positive;
-      small = omega (arith, l .small, mul-le-mul-right 1000000 (nodes-few s ok));
-      works = h .works;
-      high-room = h .high-room;
-      found-room = h .stands .found-room;
-    }
+      range = f .range;
+      bottom-small = h .stands .held .low .few;
+      high-small = f .high-small;
+      first-holds = handed s low (at .arcs) (h .stands .held .held) first₀ first e;
+      second-holds = f .holds;
+      low-shown = h .stands .held .low .shown;
+      high-shown = f .shown;
+    },
+  )
 
 -- what the descent came to, case by case
 pub open-works : (s : Sheet) (r : Descended) (high found : List ℕ) → Descends s r high found → r ≡ descended.Open → Works (arcs s) 192000001 1
@@ -169,45 +200,22 @@ pub climbs-both : (s : Sheet) (r : Climbed) (low found : List ℕ) → Climbs s 
     → TwoHeld s low count₁ found count₂ × (length low ≡ 768) × (length found ≡ 768)
 climbs-both s r low found d count₁ count₂ e = subst (λ (x : Climbed). Climbs s x low found) e d
 
--- what the copies ask
-module _ (s : Sheet) (at : Stand) (low high found first second : List ℕ) (h : LowReady s at low high found first second) where
-  pub low-few : at .arcs ≤ 192
-  low-few = omega (arith, held-few s low (at .arcs) (h .stands .admitted) (h .stands .held .held), nodes-few s (accepted s (h .stands .admitted)))
+module _ (s : Sheet) (low₀ found₀ first second : List ℕ) (f : FindReady s low₀ found₀ first second) where
+  room : Granted s first second
+  room = granted s first second (f .unrefused)
 
-  pub low-hand : (4 * at .arcs ≤ length low) × (4 * at .arcs ≤ length first)
-  low-hand = hand-ready s low (at .arcs) first (h .stands .admitted) (h .stands .held .held) (h .stands .low-room) (granted s first second (h .unrefused) .first-room)
-
-  module _ (top : Stand) (high′ found′ : List ℕ) (r : Rests s top high′ found′) where
-    pub high-few : top .arcs ≤ 192
-    high-few = omega (arith, held-few s high′ (top .arcs) (h .stands .admitted) (r .held .held), nodes-few s (accepted s (h .stands .admitted)))
-
-    pub high-hand : (4 * top .arcs ≤ length high′) × (4 * top .arcs ≤ length second)
-    high-hand = hand-ready s high′ (top .arcs) second (h .stands .admitted) (r .held .held) (r .high-room) (granted s first second (h .unrefused) .second-room)
-
-module _ (s : Sheet) (low₀ high found₀ first second : List ℕ) (f : FindReady s low₀ high found₀ first second) where
   pub find-fresh : Fresh s low₀ found₀
-  find-fresh = record { admitted = granted s first second (f .unrefused) .admitted; low-room = f .low-room; found-room = f .found-room }
+  find-fresh = record { admitted = room .admitted; low-room = f .low-room; found-room = f .found-room }
 
-  pub find-low : (at : Stand) (low found : List ℕ) → Works (arcs s) (at .top) (at .bottom) × Stands s at low found → LowReady s at low high found first second
-  find-low at low found w = record { unrefused = f .unrefused; works = w .0; stands = w .1; high-room = f .high-room }
+  pub find-low : (at : Stand) (low found : List ℕ) → Works (arcs s) (at .top) (at .bottom) × Stands s at low found → LowReady s at low found first second
+  find-low at low found w = record { unrefused = f .unrefused; works = w .0; stands = w .1 }
 
-  pub alone-few : (count : ℕ) (found : List ℕ) → OneHeld s found count × (length found ≡ 768) → count ≤ 192
-  alone-few count found o = let ok = granted s first second (f .unrefused) .admitted in omega (arith, held-few s found count ok (o .0 .held), nodes-few s (accepted s ok))
+  pub alone-fits : (count : ℕ) (found : List ℕ) → OneHeld s found count × (length found ≡ 768) → Fits count found first
+  alone-fits count found o = hand-ready s found count first (room .admitted) (o .0 .held) (o .1) (room .first-room)
 
-  pub alone-hand : (count : ℕ) (found : List ℕ) → OneHeld s found count × (length found ≡ 768) → (4 * count ≤ length found) × (4 * count ≤ length first)
-  alone-hand count found o = let g = granted s first second (f .unrefused) in hand-ready s found count first (g .admitted) (o .0 .held) (o .1) (g .first-room)
-
-  module _ (count₁ count₂ : ℕ) (low found : List ℕ) (o : TwoHeld s low count₁ found count₂ × (length low ≡ 768) × (length found ≡ 768)) where
-    pub both-few : (count₁ ≤ 192) × (count₂ ≤ 192)
-    both-few =
-        let ok = granted s first second (f .unrefused) .admitted in
-        (omega (arith, held-few s low count₁ ok (o .0 .held₁), nodes-few s (accepted s ok)), omega (arith, held-few s found count₂ ok (o .0 .held₂), nodes-few s (accepted s ok)))
-
-    pub both-first : (4 * count₁ ≤ length low) × (4 * count₁ ≤ length first)
-    both-first = let g = granted s first second (f .unrefused) in hand-ready s low count₁ first (g .admitted) (o .0 .held₁) (o .1) (g .first-room)
-
-    pub both-second : (4 * count₂ ≤ length found) × (4 * count₂ ≤ length second)
-    both-second = let g = granted s first second (f .unrefused) in hand-ready s found count₂ second (g .admitted) (o .0 .held₂) (o .2) (g .second-room)
+  pub both-fit : (count₁ count₂ : ℕ) (low found : List ℕ) → TwoHeld s low count₁ found count₂ × (length low ≡ 768) × (length found ≡ 768) → Fits count₁ low first × Fits count₂ found second
+  both-fit count₁ count₂ low found o =
+      (hand-ready s low count₁ first (room .admitted) (o .0 .held₁) (o .1) (room .first-room), hand-ready s found count₂ second (room .admitted) (o .0 .held₂) (o .2) (room .second-room))
 
 -- ---- the refusals in their order
 

@@ -1,17 +1,20 @@
 -- What the code answers, as document 01 has it: "Where an answer is an enum, a definition gives this paper's number and values for each case."
 use mathlib.Core.Path.{_≡_}
 use mathlib.Core.List.{List}
-use Prim.Native.Nat.{ℕ}
+use Prim.Native.Nat.{ℕ, _*_, _≤_}
 use lib.ListN.{length}
-use Rattle.theory.specs.Arcs.{Works}
+use Rattle.theory.specs.Arcs.{Arc, Works}
 use Rattle.theory.specs.Ends as theory
-use Rattle.tables.specs.Sheets.{Sheet}
-use Rattle.windows.specs.Arcs.{arcs}
+use Rattle.theory.proofs.Found.{Low}
+use Rattle.tables.specs.Sheets.{Sheet, refusal}
+use Rattle.windows.specs.Inequalities.{Runs}
+use Rattle.windows.specs.Arcs.{nodes, arcs}
 use Rattle.ends.specs.Ends as ends
 use Rattle.ends.specs.Ends.{endsRefusal}
 use Rattle.search.specs.Searches.{Stands}
 use Rattle.ends.specs.declared.High.{High}
 use Rattle.ends.specs.declared.High.the-variants as high
+use Rattle.ends.specs.declared.Highest.{Highest}
 use Rattle.ends.specs.declared.Ended.{Ended}
 use Rattle.ends.specs.declared.Ended.the-variants as ended
 use Rattle.search.specs.declared.Stand.{Stand}
@@ -27,16 +30,31 @@ answer (ended.Refused number) = ends.refused number
 
 -- ---- what the private steps promise each other
 
--- no refusal fits, and there is room for three circuits
-pub record FindReady (s : Sheet) (low high found first second : List ℕ) : Type 0 where
+-- no refusal fits, and there is room for two circuits
+pub record FindReady (s : Sheet) (low found first second : List ℕ) : Type 0 where
   pub unrefused : endsRefusal s first second ≡ 0
   pub low-room : length low ≡ 768
-  pub high-room : length high ≡ 768
   pub found-room : length found ≡ 768
 
 -- low is known, with its circuit
-pub record LowReady (s : Sheet) (at : Stand) (low high found first second : List ℕ) : Type 0 where
+pub record LowReady (s : Sheet) (at : Stand) (low found first second : List ℕ) : Type 0 where
   pub unrefused : endsRefusal s first second ≡ 0
   pub works : Works (arcs s) (at .top) (at .bottom)
   pub stands : Stands s at low found
-  pub high-room : length high ≡ 768
+
+-- low is known, and its circuit handed over
+pub record HighReady (s : Sheet) (at : Stand) (room found second : List ℕ) : Type 0 where
+  pub admitted : refusal s ≡ 0
+  pub works : Works (arcs s) (at .top) (at .bottom)
+  pub circuit : List Arc
+  pub low : Low (nodes s) 1000000 (s .n) (arcs s) (at .top) (at .bottom) circuit
+  pub high-room : length room ≡ 768
+  pub found-room : length found ≡ 768
+  pub second-room : 4 * nodes s ≤ length second
+
+-- high is known too, with its circuit
+pub record HighFound (s : Sheet) (at : Stand) (second₀ : List ℕ) (r : Highest) (second : List ℕ) : Type 0 where
+  pub range : theory.Range (Runs s) (at .top) (at .bottom) (highest (r .high))
+  pub high-small : (c d : ℕ) → highest (r .high) ≡ theory.up-to c d → d ≤ s .n
+  pub holds : ends.Holds s second₀ (r .arcs) second
+  pub shown : theory.HighShown (arcs s) (highest (r .high)) (ends.arcsIn s holds)

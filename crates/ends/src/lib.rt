@@ -12,7 +12,7 @@ ghost use lib.Dec.{leb};
 ghost use lib.ListN.{length};
 ghost use Rattle.tables.specs.Sheets.{sheet};
 ghost use Rattle.ends.specs.Ends.{endsRefusal, Outcome};
-ghost use Rattle.ends.specs.Answers.{answer, LowReady, FindReady};
+ghost use Rattle.ends.specs.Answers.{answer, FindReady, LowReady, HighReady, HighFound};
 
 // The highest cycle time: none, or a fraction in lowest terms.
 pub enum High {
@@ -45,7 +45,46 @@ fn circuit_room() -> [u8; 768]
     [0; 768]
 }
 
-// Where low is known: finds high, and hands both circuits over.
+// High, with the arc count of its circuit.
+pub struct Highest {
+    pub high: High,
+    pub arcs: usize,
+}
+
+// Where low is known: finds high, and hands its circuit over, if there is one.
+fn find_high(
+    n: usize,
+    m: usize,
+    positions: usize,
+    tables: &[i32],
+    schedule: &[u8],
+    low: Stand,
+    room: &mut [u8],
+    found: &mut [u8],
+    second: &mut [u8],
+) -> Highest
+    requires { ⌜ HighReady (sheet n m positions (now tables) (now schedule)) low (now room) (now found) (now second) ⌝ }
+    ensures { λ r. ⌜ HighFound (sheet n m positions (now (tables .entry)) (now (schedule .entry))) low (now (second .entry)) r (now (second .exit)) ⌝ }
+{
+    match search::descend(n, m, positions, tables, schedule, low, room, found) {
+        Descended::Open => Highest {
+            high: High::Open,
+            arcs: 0,
+        },
+        Descended::High(at) => {
+            copy(room, at.arcs, second);
+            Highest {
+                high: High::UpTo {
+                    top: at.top,
+                    bottom: at.bottom,
+                },
+                arcs: at.arcs,
+            }
+        }
+    }
+}
+
+// Where low is known: hands its circuit over, whose room is then free for high's.
 fn finish_low(
     n: usize,
     m: usize,
@@ -53,40 +92,23 @@ fn finish_low(
     tables: &[i32],
     schedule: &[u8],
     at: Stand,
-    low: &[u8],
-    high: &mut [u8],
+    low: &mut [u8],
     found: &mut [u8],
     first: &mut [u8],
     second: &mut [u8],
 ) -> Ended
-    requires { ⌜ LowReady (sheet n m positions (now tables) (now schedule)) at (now low) (now high) (now found) (now first) (now second) ⌝ }
+    requires { ⌜ LowReady (sheet n m positions (now tables) (now schedule)) at (now low) (now found) (now first) (now second) ⌝ }
     ensures { λ r. ⌜ Outcome (sheet n m positions (now (tables .entry)) (now (schedule .entry))) (now (first .entry)) (now (second .entry)) (answer r) (now (first .exit)) (now (second .exit)) ⌝ }
 {
-    match search::descend(n, m, positions, tables, schedule, at, high, found) {
-        Descended::Open => {
-            copy(low, 4 * at.arcs, first);
-            Ended::Found {
-                top: at.top,
-                bottom: at.bottom,
-                high: High::Open,
-                first: at.arcs,
-                second: 0,
-            }
-        }
-        Descended::High(top) => {
-            copy(low, 4 * at.arcs, first);
-            copy(high, 4 * top.arcs, second);
-            Ended::Found {
-                top: at.top,
-                bottom: at.bottom,
-                high: High::UpTo {
-                    top: top.top,
-                    bottom: top.bottom,
-                },
-                first: at.arcs,
-                second: top.arcs,
-            }
-        }
+    copy(low, at.arcs, first);
+    let highest = find_high(n, m, positions, tables, schedule, at, low, found, second);
+    let high = highest.high;
+    Ended::Found {
+        top: at.top,
+        bottom: at.bottom,
+        high,
+        first: at.arcs,
+        second: highest.arcs,
     }
 }
 
@@ -98,12 +120,11 @@ fn find(
     tables: &[i32],
     schedule: &[u8],
     low: &mut [u8],
-    high: &mut [u8],
     found: &mut [u8],
     first: &mut [u8],
     second: &mut [u8],
 ) -> Ended
-    requires { ⌜ FindReady (sheet n m positions (now tables) (now schedule)) (now low) (now high) (now found) (now first) (now second) ⌝ }
+    requires { ⌜ FindReady (sheet n m positions (now tables) (now schedule)) (now low) (now found) (now first) (now second) ⌝ }
     ensures { λ r. ⌜ Outcome (sheet n m positions (now (tables .entry)) (now (schedule .entry))) (now (first .entry)) (now (second .entry)) (answer r) (now (first .exit)) (now (second .exit)) ⌝ }
 {
     match search::climb(n, m, positions, tables, schedule, low, found) {
@@ -115,21 +136,20 @@ fn find(
             schedule,
             at,
             low,
-            high,
             found,
             first,
             second,
         ),
         Climbed::Alone { arcs } => {
-            copy(found, 4 * arcs, first);
+            copy(found, arcs, first);
             Ended::None {
                 first: arcs,
                 second: 0,
             }
         }
         Climbed::Both { low: before, arcs } => {
-            copy(low, 4 * before, first);
-            copy(found, 4 * arcs, second);
+            copy(low, before, first);
+            copy(found, arcs, second);
             Ended::None {
                 first: before,
                 second: arcs,
@@ -138,7 +158,7 @@ fn find(
     }
 }
 
-// Makes the room of the work's own: three circuits.
+// Makes the room of the work's own: two circuits.
 fn settle(
     n: usize,
     m: usize,
@@ -152,7 +172,6 @@ fn settle(
     ensures { λ r. ⌜ Outcome (sheet n m positions (now (tables .entry)) (now (schedule .entry))) (now (first .entry)) (now (second .entry)) (answer r) (now (first .exit)) (now (second .exit)) ⌝ }
 {
     let mut low = circuit_room();
-    let mut high = circuit_room();
     let mut found = circuit_room();
     find(
         n,
@@ -161,7 +180,6 @@ fn settle(
         tables,
         schedule,
         &mut low,
-        &mut high,
         &mut found,
         first,
         second,

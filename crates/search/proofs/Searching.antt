@@ -8,7 +8,7 @@ use Rattle.theory.specs.Ends.{Reduces}
 use Rattle.tables.specs.Sheets.{Sheet, refusal}
 use Rattle.windows.specs.Circuits.{stepsIn}
 use Rattle.weights.specs.Weights.{weightsOf, Lists}
-use Rattle.search.specs.Copies.{copied}
+use Rattle.search.specs.Copies.{copied, Fits}
 use Rattle.limits.specs.Limits.{Next}
 use Rattle.search.specs.Searches.{Climbing, Rises, Descending, Falls}
 use Rattle.limits.specs.declared.Weight.{Weight}
@@ -23,8 +23,8 @@ module _ (s : Sheet) (at : Stand) (low found : List ℕ) (arcs : ℕ) (c : Climb
   pub climbing-lists : Lists s found arcs
   climbing-lists = beats-lists s (c .admitted) (at .top) (at .bottom) found arcs (c .beats)
 
-  pub climbing-copy : (4 * arcs ≤ length found) × (4 * arcs ≤ length low)
-  climbing-copy = (climbing-lists .long, omega (arith, climbing-lists .long, c .found-room, c .low-room))
+  pub climbing-copy : Fits arcs found low
+  climbing-copy = (climbing-lists .few, climbing-lists .long, omega (arith, climbing-lists .long, c .found-room, c .low-room))
 
   module _ (w : Weight) (weighed : w ≡ weightsOf s (stepsIn found arcs)) where
     pub climbing-ready : w .forths < w .backs → w .downs ≤ w .ups
@@ -36,7 +36,7 @@ module _ (s : Sheet) (at : Stand) (low found : List ℕ) (arcs : ℕ) (c : Climb
       climbing-on top bottom after e f =
           let n = subst (Next w) e next in
           let on = low-on s (c .admitted) (at .top) (at .bottom) found arcs (c .beats) w weighed low (at .arcs) top bottom (c .stands) (n .0) (n .1) in
-          rw f (on .0, on .1, copied-length found (4 * arcs) low (climbing-copy .0) (climbing-copy .1) ∙ c .low-room)
+          rw f (on .0, on .1, copied-length found (4 * arcs) low (climbing-copy .1) (climbing-copy .2) ∙ c .low-room)
 
       pub climbing-alone : r ≡ climb.Alone → Rises s at low found arcs rise.Alone low
       climbing-alone e =
@@ -52,8 +52,8 @@ module _ (s : Sheet) (at : Stand) (high found : List ℕ) (arcs : ℕ) (d : Desc
   pub descending-lists : Lists s found arcs
   descending-lists = beats-lists s (d .admitted) (at .top) (at .bottom) found arcs (d .beats)
 
-  pub descending-copy : (4 * arcs ≤ length found) × (4 * arcs ≤ length high)
-  descending-copy = (descending-lists .long, omega (arith, descending-lists .long, d .found-room, d .high-room))
+  pub descending-copy : Fits arcs found high
+  descending-copy = (descending-lists .few, descending-lists .long, omega (arith, descending-lists .long, d .found-room, d .high-room))
 
   module _ (w : Weight) (weighed : w ≡ weightsOf s (stepsIn found arcs)) where
     pub descending-ready : (w .backs < w .forths) × (w .ups ≤ w .downs)
@@ -63,4 +63,4 @@ module _ (s : Sheet) (at : Stand) (high found : List ℕ) (arcs : ℕ) (d : Desc
         → Falls s at high arcs (record { top = top; bottom = bottom; arcs = arcs }) after
     descending-on top bottom after r f =
         let on = high-on s (d .admitted) (at .top) (at .bottom) found arcs (d .beats) w weighed (d .over) high top bottom r in
-        rw f (on .0, on .1, copied-length found (4 * arcs) high (descending-copy .0) (descending-copy .1) ∙ d .high-room)
+        rw f (on .0, on .1, copied-length found (4 * arcs) high (descending-copy .1) (descending-copy .2) ∙ d .high-room)

@@ -49,7 +49,7 @@ pub fn climb_by(
     let weight = weigh(n, m, positions, tables, schedule, found, arcs);
     match next_low(weight) {
         Climb::On { top, bottom } => {
-            copy(found, 4 * arcs, low);
+            copy(found, arcs, low);
             Rise::On(Stand { top, bottom, arcs })
         }
         Climb::Alone => Rise::Alone,
@@ -75,7 +75,7 @@ pub fn descend_by(
 {
     let weight = weigh(n, m, positions, tables, schedule, found, arcs);
     let limit = next_high(weight);
-    copy(found, 4 * arcs, high);
+    copy(found, arcs, high);
     Stand {
         top: limit.top,
         bottom: limit.bottom,

@@ -23,10 +23,6 @@ next-low-requires c κs = climbing-ready _ _ _ _ _ (c .before .before .before .b
 enum-known-top : tie.Need-enum-known-top
 enum-known-top c = search needs
 
--- src/search.rt:43:25
-mul-copy : tie.Need-mul-copy
-mul-copy c = omega (arith, climbing-lists _ _ _ _ _ (c .before .before .before .before .before .before .before .before .pre) .few)
-
 -- src/search.rt:43:13
 copy-requires : tie.Need-copy-requires
 copy-requires c κs = climbing-copy _ _ _ _ _ (c .before .before .before .before .before .before .before .before .before .pre)
@@ -63,7 +59,6 @@ climb-by-spec =
     weigh-requires
     next-low-requires
     enum-known-top
-    mul-copy
     copy-requires
     enum-told
     enum-told-2

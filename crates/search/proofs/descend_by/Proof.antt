@@ -19,10 +19,6 @@ weigh-requires c κs = descending-lists _ _ _ _ _ (c .before .before .before .pr
 next-high-requires : tie.Need-next-high-requires
 next-high-requires c κs = descending-ready _ _ _ _ _ (c .before .before .before .before .pre) (c .weigh .result) (c .weigh .ensures .0)
 
--- src/search.rt:69:17
-mul-copy : tie.Need-mul-copy
-mul-copy c = omega (arith, descending-lists _ _ _ _ _ (c .before .before .before .before .before .pre) .few)
-
 -- src/search.rt:69:5
 copy-requires : tie.Need-copy-requires
 copy-requires c κs = descending-copy _ _ _ _ _ (c .before .before .before .before .before .before .pre)
@@ -38,4 +34,4 @@ returns c = descending-on _ _ _ _ _ (c .before .before .before .before .before .
 pub descend-by-spec : {M : Type 1} → statement M
 descend-by-spec =
     tie.close
-    (tie.spec weigh-requires next-high-requires mul-copy copy-requires same-length returns)
+    (tie.spec weigh-requires next-high-requires copy-requires same-length returns)

@@ -12,23 +12,26 @@ use Rattle.search.proofs.circuits.copy.Reads as reads
 use Rattle.search.proofs.circuits.copy.Lts as lts
 
 abbrev Inv-loop : tie.InvT-loop
-Inv-loop from count to₀ k₀ to k = (k ≤ count) × (to ≡ copied from k to₀)
+Inv-loop from arcs to₀ count k₀ to k = (k ≤ count) × (to ≡ copied from k to₀)
 
 abbrev μ-loop : tie.MeasureT-loop
-μ-loop from count to₀ k₀ to k = count - k
+μ-loop from arcs to₀ count k₀ to k = count - k
+
+mul-count : tie.Need-mul-count Inv-loop μ-loop
+mul-count c = omega (arith, c .pre .0)
 
 loop-holds : tie.Need-loop-holds Inv-loop μ-loop
 loop-holds c = (omega arith, refl)
 
 shared-slice-read-to : tie.Need-shared-slice-read-to Inv-loop μ-loop
-shared-slice-read-to c = omega (arith, c .before .loop-test .taken, c .before .before .before .pre .0)
+shared-slice-read-to c = omega (arith, c .before .loop-test .taken, c .before .before .before .pre .1)
 
 slice-write-to : tie.Need-slice-write-to Inv-loop μ-loop
 slice-write-to c =
     let i = c .before .before .loop .inv in
     let room = c .before .before .before .pre in
-    let long = copied-length (c .before .before .before .args .from .now) (c .before .before .loop .k) (c .before .before .before .args .to .now) (omega (arith, i .0, room .0)) (omega (arith, i .0, room .1)) in
-    omega (arith, c .before .loop-test .taken, room .1, ap length (i .1), long)
+    let long = copied-length (c .before .before .before .args .from .now) (c .before .before .loop .k) (c .before .before .before .args .to .now) (omega (arith, i .0, room .1)) (omega (arith, i .0, room .2)) in
+    omega (arith, c .before .loop-test .taken, room .2, ap length (i .1), long)
 
 add-k : tie.Need-add-k Inv-loop μ-loop
 add-k c = omega arith
@@ -41,15 +44,15 @@ loop-again c =
     let h = c .before .loop-test .taken in
     let room = c .before .before .before .pre in (
       omega (arith, h),
-      copied-more (c .before .before .before .args .from .now) (c .before .before .loop .k) (c .before .before .before .args .to .now) (c .before .before .loop .to) (omega (arith, h, room .0))
-          (omega (arith, h, room .1)) (c .before .before .loop .inv .1),
+      copied-more (c .before .before .before .args .from .now) (c .before .before .loop .k) (c .before .before .before .args .to .now) (c .before .before .loop .to) (omega (arith, h, room .1))
+          (omega (arith, h, room .2)) (c .before .before .loop .inv .1),
     )
 
 same-length : tie.Need-same-length Inv-loop μ-loop
 same-length c =
     let i = c .before .loop .inv in
     let room = c .before .before .pre in
-    ap length (i .1) ∙ copied-length (c .before .before .args .from .now) (c .before .loop .k) (c .before .before .args .to .now) (omega (arith, i .0, room .0)) (omega (arith, i .0, room .1))
+    ap length (i .1) ∙ copied-length (c .before .before .args .from .now) (c .before .loop .k) (c .before .before .args .to .now) (omega (arith, i .0, room .1)) (omega (arith, i .0, room .2))
 
 returns : tie.Need-returns Inv-loop μ-loop
 returns c =
@@ -57,4 +60,4 @@ returns c =
     i .1 ∙ ap (λ (k : ℕ). copied (c .before .before .args .from .now) k (c .before .before .args .to .now)) (le-antisymm (i .0) (c .loop-test .left))
 
 pub copy-spec : {M : Type 1} → statement M
-copy-spec = tie.close (tie.spec Inv-loop μ-loop loop-holds shared-slice-read-to slice-write-to add-k loop-less loop-again same-length returns)
+copy-spec = tie.close (tie.spec Inv-loop μ-loop mul-count loop-holds shared-slice-read-to slice-write-to add-k loop-less loop-again same-length returns)
