@@ -20,7 +20,7 @@ use Rattle.windows.proofs.Limits.{sheet-laid, nodes-few}
 use Rattle.ends.specs.Ends as ends
 use Rattle.ends.specs.Ends.{roomy, endsRefusal, Holds, Outcome}
 use Rattle.search.specs.Copies.{copied, Fits}
-use Rattle.search.specs.Climbs.{Held, heldArcs, OneHeld, TwoHeld}
+use Rattle.search.specs.Climbs.{Held, heldArcs, NoneHeld}
 use Rattle.search.specs.Searches.{Stands, Rests, Overhead, Descends, Fresh, Climbs}
 use Rattle.ends.specs.Answers.{highest, FindReady, LowReady, HighReady, HighFound}
 use Rattle.ends.specs.declared.High.the-variants as high
@@ -82,20 +82,9 @@ module _ (s : Sheet) (first₀ second₀ : List ℕ) (none : endsRefusal s first
   ok : Admitted s
   ok = accepted s (granted s first₀ second₀ none .admitted)
 
-  pub lacks-alone : (found : List ℕ) (count : ℕ) → OneHeld s found count → (first : List ℕ) → first ≡ copied found (4 * count) first₀ → Outcome s first₀ second₀ (ends.none count 0) first second₀
-  lacks-alone found count h first e = (
-    none,
-    record {
-      never = never-runs s (ok .size .some-positions) (none-never (arcs s) _ _ (h .shown));
-      first-holds = handed s found count (h .held) first₀ first e;
-      second-holds = unhanded s second₀;
-      none-shown = h .shown;
-    },
-  )
-
-  pub lacks-both : (low : List ℕ) (count₁ : ℕ) (found : List ℕ) (count₂ : ℕ) → TwoHeld s low count₁ found count₂ → (first second : List ℕ) → first ≡ copied low (4 * count₁) first₀
+  pub lacks : (low : List ℕ) (count₁ : ℕ) (found : List ℕ) (count₂ : ℕ) → NoneHeld s low count₁ found count₂ → (first second : List ℕ) → first ≡ copied low (4 * count₁) first₀
       → second ≡ copied found (4 * count₂) second₀ → Outcome s first₀ second₀ (ends.none count₁ count₂) first second
-  lacks-both low count₁ found count₂ h first second e f = (
+  lacks low count₁ found count₂ h first second e f = (
     none,
     record {
       never = never-runs s (ok .size .some-positions) (none-never (arcs s) _ _ (h .shown));
@@ -193,12 +182,9 @@ rests-high s r high found d top e = subst (λ (x : Descended). Descends s x high
 pub climbs-low : (s : Sheet) (r : Climbed) (low found : List ℕ) → Climbs s r low found → (at : Stand) → r ≡ climbed.Low at → Works (arcs s) (at .top) (at .bottom) × Stands s at low found
 climbs-low s r low found d at e = subst (λ (x : Climbed). Climbs s x low found) e d
 
-pub climbs-alone : (s : Sheet) (r : Climbed) (low found : List ℕ) → Climbs s r low found → (count : ℕ) → r ≡ climbed.Alone count → OneHeld s found count × (length found ≡ 768)
-climbs-alone s r low found d count e = subst (λ (x : Climbed). Climbs s x low found) e d
-
-pub climbs-both : (s : Sheet) (r : Climbed) (low found : List ℕ) → Climbs s r low found → (count₁ count₂ : ℕ) → r ≡ climbed.Both count₁ count₂
-    → TwoHeld s low count₁ found count₂ × (length low ≡ 768) × (length found ≡ 768)
-climbs-both s r low found d count₁ count₂ e = subst (λ (x : Climbed). Climbs s x low found) e d
+pub climbs-none : (s : Sheet) (r : Climbed) (low found : List ℕ) → Climbs s r low found → (count₁ count₂ : ℕ) → r ≡ climbed.None count₁ count₂
+    → NoneHeld s low count₁ found count₂ × (length low ≡ 768) × (length found ≡ 768)
+climbs-none s r low found d count₁ count₂ e = subst (λ (x : Climbed). Climbs s x low found) e d
 
 module _ (s : Sheet) (low₀ found₀ first second : List ℕ) (f : FindReady s low₀ found₀ first second) where
   room : Granted s first second
@@ -210,11 +196,8 @@ module _ (s : Sheet) (low₀ found₀ first second : List ℕ) (f : FindReady s 
   pub find-low : (at : Stand) (low found : List ℕ) → Works (arcs s) (at .top) (at .bottom) × Stands s at low found → LowReady s at low found first second
   find-low at low found w = record { unrefused = f .unrefused; works = w .0; stands = w .1 }
 
-  pub alone-fits : (count : ℕ) (found : List ℕ) → OneHeld s found count × (length found ≡ 768) → Fits count found first
-  alone-fits count found o = hand-ready s found count first (room .admitted) (o .0 .held) (o .1) (room .first-room)
-
-  pub both-fit : (count₁ count₂ : ℕ) (low found : List ℕ) → TwoHeld s low count₁ found count₂ × (length low ≡ 768) × (length found ≡ 768) → Fits count₁ low first × Fits count₂ found second
-  both-fit count₁ count₂ low found o =
+  pub none-fit : (count₁ count₂ : ℕ) (low found : List ℕ) → NoneHeld s low count₁ found count₂ × (length low ≡ 768) × (length found ≡ 768) → Fits count₁ low first × Fits count₂ found second
+  none-fit count₁ count₂ low found o =
       (hand-ready s low count₁ first (room .admitted) (o .0 .held₁) (o .1) (room .first-room), hand-ready s found count₂ second (room .admitted) (o .0 .held₂) (o .2) (room .second-room))
 
 -- ---- the refusals in their order

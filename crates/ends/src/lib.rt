@@ -140,19 +140,15 @@ fn find(
             first,
             second,
         ),
-        Climbed::Alone { arcs } => {
-            copy(found, arcs, first);
+        Climbed::None {
+            first: one,
+            second: two,
+        } => {
+            copy(low, one, first);
+            copy(found, two, second);
             Ended::None {
-                first: arcs,
-                second: 0,
-            }
-        }
-        Climbed::Both { low: before, arcs } => {
-            copy(low, before, first);
-            copy(found, arcs, second);
-            Ended::None {
-                first: before,
-                second: arcs,
+                first: one,
+                second: two,
             }
         }
     }

@@ -9,7 +9,7 @@ use Rattle.theory.specs.Arcs.{Works}
 use Rattle.tables.specs.Sheets.{Sheet, refusal}
 use Rattle.tables.proofs.Laws.{Admitted, accepted}
 use Rattle.windows.specs.Arcs.{nodes, arcs}
-use Rattle.windows.specs.Circuits.{numbers}
+use Rattle.windows.specs.Circuits.{numbers, stepsIn}
 use Rattle.windows.proofs.Endless.{meaning}
 use Rattle.windows.proofs.Limits.{nodes-few}
 use Rattle.windows.proofs.Numbers.{numbers-length}
@@ -20,9 +20,13 @@ use Rattle.ask.specs.declared.Asked.{Asked}
 use Rattle.ask.specs.declared.Asked.the-variants as asked
 use Rattle.ask.proofs.Room.{unrefused}
 use Rattle.search.specs.Climbs.{Beats, LowHeld, HighHeld}
-use Rattle.search.specs.Searches.{Ready, Asks, Stands}
+use Rattle.search.specs.Searches.{Ready, Asks, Judged, Stands}
+use Rattle.limits.specs.declared.Weight.{Weight}
+use Rattle.weights.specs.Weights.{weightsOf, Lists}
 use Rattle.search.specs.declared.Stand.{Stand}
+use Rattle.search.specs.declared.Verdict.the-variants as verdict
 use Rattle.weights.proofs.Held.{count-few}
+use Rattle.search.proofs.Climbing.{beats-lists}
 
 module _ (s : Sheet) (at : Stand) (found₀ : List ℕ) (r : Ready s at found₀) where
   ok : Admitted s
@@ -69,3 +73,17 @@ stands-ready s at low found h =
       small = omega (arith, l .small, nodes-few s ok, mul-le-mul-right 1000000 (nodes-few s ok));
       room = h .found-room;
     }
+
+-- the answer, with the sums of the circuit that refutes
+module _ (s : Sheet) (at : Stand) (found₀ : List ℕ) (r : Ready s at found₀) (a : Asked) (found : List ℕ) (answered : Asks s at a found) where
+  pub judged-works : (rounds : ℕ) → a ≡ asked.Accepted rounds → Judged s at verdict.Works found
+  judged-works rounds e = subst (λ (x : Asked). Asks s at x found) e answered
+
+  pub judged-never : (k : ℕ) → a ≡ asked.Refused k → ⊥
+  judged-never k e = subst (λ (x : Asked). Asks s at x found) e answered
+
+  pub judged-lists : (count : ℕ) → a ≡ asked.Refuted count → Lists s found count
+  judged-lists count e = beats-lists s (r .admitted) (at .top) (at .bottom) found count (subst (λ (x : Asked). Asks s at x found) e answered .0)
+
+  pub judged-above : (count : ℕ) → a ≡ asked.Refuted count → (w : Weight) → w ≡ weightsOf s (stepsIn found count) → Judged s at (verdict.Above w count) found
+  judged-above count e w weighed = let o = subst (λ (x : Asked). Asks s at x found) e answered in (o .0, weighed, o .1)

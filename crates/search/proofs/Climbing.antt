@@ -18,8 +18,8 @@ use Rattle.windows.specs.Circuits.{Step, numbers, stepArc, stepsIn, CircuitOf}
 use Rattle.windows.proofs.Limits.{sheet-laid}
 use Rattle.windows.proofs.Numbers.{numbers-length}
 use Rattle.weights.specs.Weights.{weightsOf, Lists}
-use Rattle.search.specs.Copies.{copied}
-use Rattle.search.specs.Climbs.{Held, heldArcs, Beats, Over, LowHeld, HighHeld, OneHeld, TwoHeld}
+use Rattle.search.specs.Copies.{copied, Fits}
+use Rattle.search.specs.Climbs.{Held, heldArcs, Beats, Over, LowHeld, HighHeld, NoneHeld}
 use Rattle.limits.specs.declared.Weight.{Weight}
 use Rattle.weights.proofs.Held.{lists, weights-are}
 
@@ -32,6 +32,18 @@ copied-starts cs rest from to count starts counted =
 module _ (s : Sheet) (ok : refusal s ≡ 0) (p q : ℕ) (found : List ℕ) (count : ℕ) (b : Beats s p q found count) where
   pub beats-lists : Lists s found count
   beats-lists = lists s ok (b .steps) (b .rest) found count (b .circuit) (b .counted) (b .starts)
+
+  -- what a copy of it asks
+  pub beats-fits : length found ≡ 768 → (to : List ℕ) → length to ≡ 768 → Fits count found to
+  beats-fits room to room′ = (beats-lists .few, beats-lists .long, omega (arith, beats-lists .long))
+
+  -- the circuit, where it was found and where it is copied to
+  abbrev held : Held s found count
+  held = record { steps = b .steps; circuit = inr (b .circuit); counted = b .counted; rest = b .rest; starts = b .starts }
+
+  abbrev held-in : (to : List ℕ) → Held s (copied found (4 * count) to) count
+  held-in to =
+      record { steps = b .steps; circuit = inr (b .circuit); counted = b .counted; rest = drop (4 * count) to; starts = copied-starts (b .steps) (b .rest) found to count (b .starts) (b .counted) }
 
   -- the sums that the code has
   module _ (w : Weight) (weighed : w ≡ weightsOf s (stepsIn found count)) where
@@ -71,25 +83,23 @@ module _ (s : Sheet) (ok : refusal s ≡ 0) (p q : ℕ) (found : List ℕ) (coun
         let c = map (stepArc s) (b .steps) in
         let worth : top * (backs c - forths c) ≡ (ups c - downs c) * bottom = rw (← ups-is, ← downs-is, ← forths-is, ← backs-is) (r .worth) in
         let on = climb-on (nodes s) 1000000 (s .n) (arcs s) (sheet-laid s (accepted s ok)) p q (heldArcs s (l .held)) (l .low) c (b .circuit .circuit) (b .above) (omega (arith, forths-is, backs-is)) top bottom (r .positive) (r .lowest) worth in (
-          record {
-            held = record { steps = b .steps; circuit = inr (b .circuit); counted = b .counted; rest = drop (4 * count) low; starts = copied-starts (b .steps) (b .rest) found low count (b .starts) (b .counted) };
-            low = on .0;
-          },
+          record { held = held-in low; low = on .0 },
           on .1,
         )
 
-    pub low-alone : w .backs ≤ w .forths → w .downs < w .ups → OneHeld s found count
-    low-alone level gains =
+    pub low-alone : (low : List ℕ) → w .backs ≤ w .forths → w .downs < w .ups → NoneHeld s (copied found (4 * count) low) count found 0
+    low-alone low level gains =
         record {
-          held = record { steps = b .steps; circuit = inr (b .circuit); counted = b .counted; rest = b .rest; starts = b .starts };
+          held₁ = held-in low;
+          held₂ = record { steps = []; circuit = inl refl; counted = refl; rest = found; starts = refl };
           shown = single (b .circuit .circuit) (omega (arith, ups-is, downs-is)) (omega (arith, forths-is, backs-is));
         }
 
-    pub low-both : (low : List ℕ) (before : ℕ) → LowHeld s low p q before → w .backs ≤ w .forths → w .ups ≤ w .downs → TwoHeld s low before found count
+    pub low-both : (low : List ℕ) (before : ℕ) → LowHeld s low p q before → w .backs ≤ w .forths → w .ups ≤ w .downs → NoneHeld s low before found count
     low-both low before l level less =
         record {
           held₁ = l .held;
-          held₂ = record { steps = b .steps; circuit = inr (b .circuit); counted = b .counted; rest = b .rest; starts = b .starts };
+          held₂ = held;
           shown = climb-both (nodes s) 1000000 (s .n) (arcs s) (sheet-laid s (accepted s ok)) p q (heldArcs s (l .held)) (l .low) (map (stepArc s) (b .steps)) (b .circuit .circuit) (b .above)
               (omega (arith, forths-is, backs-is)) (omega (arith, ups-is, downs-is));
         }
@@ -106,9 +116,6 @@ module _ (s : Sheet) (ok : refusal s ≡ 0) (p q : ℕ) (found : List ℕ) (coun
         let c = map (stepArc s) (b .steps) in
         let worth : top * (forths c - backs c) ≡ (downs c - ups c) * bottom = rw (← ups-is, ← downs-is, ← forths-is, ← backs-is) (r .worth) in
         let on = descend-on (nodes s) 1000000 (s .n) (arcs s) (sheet-laid s (accepted s ok)) (o .top) (o .bottom) (o .positive) (o .works) p q (o .below) c (b .circuit .circuit) (b .above) top bottom (r .positive) (r .lowest) worth in (
-          record {
-            held = record { steps = b .steps; circuit = inr (b .circuit); counted = b .counted; rest = drop (4 * count) high; starts = copied-starts (b .steps) (b .rest) found high count (b .starts) (b .counted) };
-            top-is = on .0;
-          },
+          record { held = held-in high; top-is = on .0 },
           on .1,
         )

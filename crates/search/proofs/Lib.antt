@@ -1,6 +1,5 @@
 pub mod Copies
 pub mod Climbing
-pub mod Searching
 pub mod Asking
-pub mod Stepping
-pub mod Ending
+pub mod Rising
+pub mod Falling

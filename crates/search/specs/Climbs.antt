@@ -51,12 +51,8 @@ module _ (s : Sheet) where
     pub held : Held buffer count
     pub top-is : Top (nodes s) 1000000 (s .n) (arcs s) top bottom (heldArcs held)
 
-  -- nothing works, and one circuit, or two, show it
-  pub record OneHeld (buffer : List ℕ) (count : ℕ) : Type 0 where
-    pub held : Held buffer count
-    pub shown : NoneShown (arcs s) (heldArcs held) []
-
-  pub record TwoHeld (first : List ℕ) (count₁ : ℕ) (second : List ℕ) (count₂ : ℕ) : Type 0 where
+  -- nothing works, and the first circuit, or both, show it
+  pub record NoneHeld (first : List ℕ) (count₁ : ℕ) (second : List ℕ) (count₂ : ℕ) : Type 0 where
     pub held₁ : Held first count₁
     pub held₂ : Held second count₂
     pub shown : NoneShown (arcs s) (heldArcs held₁) (heldArcs held₂)

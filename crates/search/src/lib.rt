@@ -6,13 +6,15 @@ pub mod circuits;
 use ask::Asked;
 use circuits::copy;
 use limits::Climb;
+use limits::Weight;
 use limits::next_high;
 use limits::next_low;
 use weights::weigh;
 ghost use mathlib.Core.Path.{_≡_};
 ghost use lib.ListN.{length};
 ghost use Rattle.tables.specs.Sheets.{sheet};
-ghost use Rattle.search.specs.Searches.{Climbing, Rises, Descending, Falls, Ready, Asks, Stands, Stepped, Fresh, Climbs, Hangs, Dropped, HighStands, Rests, Overhead, Descends};
+ghost use Rattle.search.specs.Copies.{copied, Fits};
+ghost use Rattle.search.specs.Searches.{Ready, Asks, Judged, Gains, Rises, Turns, Falls, Stands, Fresh, Climbs, Hangs, HighStands, Rests, Overhead, Descends};
 
 // A cycle time above every limit: a circuit has at most 192 arcs, of at most 1,000,000 each.
 const ABOVE: u64 = 192000001;
@@ -24,63 +26,10 @@ pub struct Stand {
     pub arcs: usize,
 }
 
-// What a circuit above zero does to the climb: on to its limit; or nothing works, as it shows alone, or with the circuit before it.
-pub enum Rise {
-    On(Stand),
-    Alone,
-    Both,
-}
-
-// The circuit found, above zero where the climb stands. On the way on it is copied over the one before.
-pub fn climb_by(
-    n: usize,
-    m: usize,
-    positions: usize,
-    tables: &[i32],
-    schedule: &[u8],
-    at: Stand,
-    low: &mut [u8],
-    found: &[u8],
-    arcs: usize,
-) -> Rise
-    requires { ⌜ Climbing (sheet n m positions (now tables) (now schedule)) at (now low) (now found) arcs ⌝ }
-    ensures { λ r. ⌜ Rises (sheet n m positions (now (tables .entry)) (now (schedule .entry))) at (now (low .entry)) (now (found .entry)) arcs r (now (low .exit)) ⌝ }
-{
-    let weight = weigh(n, m, positions, tables, schedule, found, arcs);
-    match next_low(weight) {
-        Climb::On { top, bottom } => {
-            copy(found, arcs, low);
-            Rise::On(Stand { top, bottom, arcs })
-        }
-        Climb::Alone => Rise::Alone,
-        Climb::Both => Rise::Both,
-    }
-}
-
-// The circuit found, above zero at a cycle time that lies over one that works. It is copied over the one before, and its limit is where the
-// descent stands next.
-pub fn descend_by(
-    n: usize,
-    m: usize,
-    positions: usize,
-    tables: &[i32],
-    schedule: &[u8],
-    at: Stand,
-    high: &mut [u8],
-    found: &[u8],
-    arcs: usize,
-) -> Stand
-    requires { ⌜ Descending (sheet n m positions (now tables) (now schedule)) at (now high) (now found) arcs ⌝ }
-    ensures { λ r. ⌜ Falls (sheet n m positions (now (tables .entry)) (now (schedule .entry))) at (now (high .entry)) arcs r (now (high .exit)) ⌝ }
-{
-    let weight = weigh(n, m, positions, tables, schedule, found, arcs);
-    let limit = next_high(weight);
-    copy(found, arcs, high);
-    Stand {
-        top: limit.top,
-        bottom: limit.bottom,
-        arcs,
-    }
+// What is found where the search stands: it works, or a circuit is above zero there, with its sums and its arc count.
+pub enum Verdict {
+    Works,
+    Above { weight: Weight, arcs: usize },
 }
 
 // Room for the plan that Ask writes and the search does not need.
@@ -117,72 +66,64 @@ fn ask_at(
     )
 }
 
-// A step of the climb: it works here, or the climb goes on, or nothing works.
-pub enum Step {
-    Works,
-    On(Stand),
-    Alone { arcs: usize },
-    Both { arcs: usize },
-}
-
-// The step that the circuit found decides.
-fn climb_on(
+// Asks where the search stands, and weighs the circuit that refutes. (Ask refuses nothing here.)
+fn judge_at(
     n: usize,
     m: usize,
     positions: usize,
     tables: &[i32],
     schedule: &[u8],
     at: Stand,
-    low: &mut [u8],
-    found: &[u8],
-    arcs: usize,
-) -> Step
-    requires { ⌜ Climbing (sheet n m positions (now tables) (now schedule)) at (now low) (now found) arcs ⌝ }
-    ensures { λ r. ⌜ Stepped (sheet n m positions (now (tables .entry)) (now (schedule .entry))) at r (now (low .exit)) (now (found .entry)) ⌝ }
-{
-    match climb_by(n, m, positions, tables, schedule, at, low, found, arcs) {
-        Rise::On(next) => Step::On(next),
-        Rise::Alone => Step::Alone { arcs },
-        Rise::Both => Step::Both { arcs },
-    }
-}
-
-// One step of the climb. (Ask refuses nothing here.)
-fn climb_step(
-    n: usize,
-    m: usize,
-    positions: usize,
-    tables: &[i32],
-    schedule: &[u8],
-    at: Stand,
-    low: &mut [u8],
     found: &mut [u8],
-) -> Step
-    requires { ⌜ Stands (sheet n m positions (now tables) (now schedule)) at (now low) (now found) ⌝ }
-    ensures { λ r. ⌜ Stepped (sheet n m positions (now (tables .entry)) (now (schedule .entry))) at r (now (low .exit)) (now (found .exit)) ⌝ }
+) -> Verdict
+    requires { ⌜ Ready (sheet n m positions (now tables) (now schedule)) at (now found) ⌝ }
+    ensures { λ r. ⌜ Judged (sheet n m positions (now (tables .entry)) (now (schedule .entry))) at r (now (found .exit)) ⌝ }
 {
     match ask_at(n, m, positions, tables, schedule, at, found) {
-        Asked::Accepted { rounds: _ } => Step::Works,
-        Asked::Refused { number: _ } => Step::Works,
-        Asked::Refuted { arcs } => climb_on(
-            n,
-            m,
-            positions,
-            tables,
-            schedule,
-            at,
-            low,
-            found,
-            arcs as usize,
-        ),
+        Asked::Accepted { rounds: _ } => Verdict::Works,
+        Asked::Refused { number: _ } => Verdict::Works,
+        Asked::Refuted { arcs: count } => {
+            let arcs = count as usize;
+            let weight = weigh(n, m, positions, tables, schedule, found, arcs);
+            Verdict::Above { weight, arcs }
+        }
     }
 }
 
-// What the climb comes to: the lowest cycle time with its circuit, or nothing works, as one circuit shows or two.
+// What a circuit above zero does to the climb: on to its limit, or nothing works, as the first circuit shows, alone or with the second.
+pub enum Rise {
+    On(Stand),
+    None { first: usize, second: usize },
+}
+
+// The circuit found goes over the one before, but where the two show together that nothing works.
+fn climb_by(weight: Weight, held: usize, found: &[u8], arcs: usize, low: &mut [u8]) -> Rise
+    requires { ⌜ Gains weight × Fits arcs (now found) (now low) ⌝ }
+    ensures { λ r. ⌜ Rises weight held (now (found .entry)) arcs (now (low .entry)) r (now (low .exit)) ⌝ }
+{
+    match next_low(weight) {
+        Climb::On { top, bottom } => {
+            copy(found, arcs, low);
+            Rise::On(Stand { top, bottom, arcs })
+        }
+        Climb::Alone => {
+            copy(found, arcs, low);
+            Rise::None {
+                first: arcs,
+                second: 0,
+            }
+        }
+        Climb::Both => Rise::None {
+            first: held,
+            second: arcs,
+        },
+    }
+}
+
+// What the climb comes to: the lowest cycle time with its circuit, or nothing works, as one circuit shows or two, with their arc counts.
 pub enum Climbed {
     Low(Stand),
-    Alone { arcs: usize },
-    Both { low: usize, arcs: usize },
+    None { first: usize, second: usize },
 }
 
 // The climb from 0/1: every circuit above zero names a later cycle time, so that it ends.
@@ -204,57 +145,33 @@ pub fn climb(
         arcs: 0,
     };
     loop {
-        match climb_step(n, m, positions, tables, schedule, at, low, found) {
-            Step::On(next) => {
-                at = next;
-            }
-            Step::Works => {
+        match judge_at(n, m, positions, tables, schedule, at, found) {
+            Verdict::Works => {
                 return Climbed::Low(at);
             }
-            Step::Alone { arcs } => {
-                return Climbed::Alone { arcs };
-            }
-            Step::Both { arcs } => {
-                return Climbed::Both { low: at.arcs, arcs };
-            }
+            Verdict::Above { weight, arcs } => match climb_by(weight, at.arcs, found, arcs, low) {
+                Rise::On(next) => {
+                    at = next;
+                }
+                Rise::None { first, second } => {
+                    return Climbed::None { first, second };
+                }
+            },
         }
     }
 }
 
-// A step of the descent: it works here, or on to an earlier cycle time.
-pub enum Drop {
-    Works,
-    On(Stand),
-}
-
-// One step of the descent. (Ask refuses nothing here.)
-fn descend_step(
-    n: usize,
-    m: usize,
-    positions: usize,
-    tables: &[i32],
-    schedule: &[u8],
-    at: Stand,
-    high: &mut [u8],
-    found: &mut [u8],
-) -> Drop
-    requires { ⌜ Hangs (sheet n m positions (now tables) (now schedule)) at (now high) (now found) ⌝ }
-    ensures { λ r. ⌜ Dropped (sheet n m positions (now (tables .entry)) (now (schedule .entry))) at (now (high .entry)) r (now (high .exit)) (now (found .exit)) ⌝ }
+// The circuit found, above zero at a cycle time that lies over one that works, goes over the one before, and its limit is next.
+fn descend_by(weight: Weight, found: &[u8], arcs: usize, high: &mut [u8]) -> Stand
+    requires { ⌜ Turns weight × Fits arcs (now found) (now high) ⌝ }
+    ensures { λ r. ⌜ Falls weight (now (found .entry)) arcs (now (high .entry)) r (now (high .exit)) ⌝ }
 {
-    match ask_at(n, m, positions, tables, schedule, at, found) {
-        Asked::Accepted { rounds: _ } => Drop::Works,
-        Asked::Refused { number: _ } => Drop::Works,
-        Asked::Refuted { arcs } => Drop::On(descend_by(
-            n,
-            m,
-            positions,
-            tables,
-            schedule,
-            at,
-            high,
-            found,
-            arcs as usize,
-        )),
+    let limit = next_high(weight);
+    copy(found, arcs, high);
+    Stand {
+        top: limit.top,
+        bottom: limit.bottom,
+        arcs,
     }
 }
 
@@ -274,12 +191,12 @@ fn descend_from(
 {
     let mut at = from;
     loop {
-        match descend_step(n, m, positions, tables, schedule, at, high, found) {
-            Drop::On(next) => {
-                at = next;
-            }
-            Drop::Works => {
+        match judge_at(n, m, positions, tables, schedule, at, found) {
+            Verdict::Works => {
                 return at;
+            }
+            Verdict::Above { weight, arcs } => {
+                at = descend_by(weight, found, arcs, high);
             }
         }
     }
@@ -310,17 +227,11 @@ pub fn descend(
         bottom: 1,
         arcs: 0,
     };
-    match descend_step(n, m, positions, tables, schedule, above, high, found) {
-        Drop::Works => Descended::Open,
-        Drop::On(next) => Descended::High(descend_from(
-            n,
-            m,
-            positions,
-            tables,
-            schedule,
-            next,
-            high,
-            found,
-        )),
+    match judge_at(n, m, positions, tables, schedule, above, found) {
+        Verdict::Works => Descended::Open,
+        Verdict::Above { weight, arcs } => {
+            let next = descend_by(weight, found, arcs, high);
+            Descended::High(descend_from(n, m, positions, tables, schedule, next, high, found))
+        }
     }
 }

@@ -1,5 +1,5 @@
 -- `ends::find` meets its contract: what the climb comes to, with the circuits handed over.
-use Rattle.ends.proofs.Finishing.{find-fresh, find-low, climbs-low, climbs-alone, climbs-both, alone-fits, both-fit, lacks-alone, lacks-both}
+use Rattle.ends.proofs.Finishing.{find-fresh, find-low, climbs-low, climbs-none, none-fit, lacks}
 use borrow.Author.Needs.{needs}
 use Rattle.ends.proofs.find.Statement.{statement}
 use Rattle.ends.proofs.find.Tie as tie
@@ -13,20 +13,14 @@ enum-known-at c = search needs
 finish-low-requires : tie.Need-finish-low-requires
 finish-low-requires c κs = find-low _ _ _ _ _ (c .before .before .before .before .before .before .before .before .before .before .before .before .before .before .before .before .before .before .before .pre) _ _ _ (climbs-low _ _ _ _ (c .before .before .before .before .before .before .before .before .before .before .before .climb .ensures) _ (c .before .before .before .before .before .at .given .1))
 
-enum-known-arcs : tie.Need-enum-known-arcs
-enum-known-arcs c = search needs
+enum-known-one : tie.Need-enum-known-one
+enum-known-one c = search needs
 
 copy-requires : tie.Need-copy-requires
-copy-requires c κs = alone-fits _ _ _ _ _ (c .before .before .before .before .before .before .before .before .before .before .before .before .before .before .before .before .before .pre) _ _ (climbs-alone _ _ _ _ (c .before .before .before .before .before .before .before .before .before .climb .ensures) _ (c .before .before .before .arcs .given .1))
-
-enum-known-before : tie.Need-enum-known-before
-enum-known-before c = search needs
+copy-requires c κs = none-fit _ _ _ _ _ (c .before .before .before .before .before .before .before .before .before .before .before .before .before .before .before .before .before .pre) _ _ _ _ (climbs-none _ _ _ _ (c .before .before .before .before .before .before .before .before .before .climb .ensures) _ _ (c .before .before .before .one .given .1)) .0
 
 copy-requires-2 : tie.Need-copy-requires-2
-copy-requires-2 c κs = both-fit _ _ _ _ _ (c .before .before .before .before .before .before .before .before .before .before .before .before .before .before .before .before .before .pre) _ _ _ _ (climbs-both _ _ _ _ (c .before .before .before .before .before .before .before .before .before .climb .ensures) _ _ (c .before .before .before .before2 .given .1)) .0
-
-copy-requires-3 : tie.Need-copy-requires-3
-copy-requires-3 c κs = both-fit _ _ _ _ _ (c .before .before .before .before .before .before .before .before .before .before .before .before .before .before .before .before .before .before .before .before .before .before .pre) _ _ _ _ (climbs-both _ _ _ _ (c .before .before .before .before .before .before .before .before .before .before .before .before .before .before .climb .ensures) _ _ (c .before .before .before .before .before .before .before .before .before2 .given .1)) .1
+copy-requires-2 c κs = none-fit _ _ _ _ _ (c .before .before .before .before .before .before .before .before .before .before .before .before .before .before .before .before .before .before .before .before .before .before .pre) _ _ _ _ (climbs-none _ _ _ _ (c .before .before .before .before .before .before .before .before .before .before .before .before .before .before .climb .ensures) _ _ (c .before .before .before .before .before .before .before .before .one .given .1)) .1
 
 same-length : tie.Need-same-length
 same-length c = search needs
@@ -52,23 +46,11 @@ same-length-6 c = search needs
 same-length-7 : tie.Need-same-length-7
 same-length-7 c = search needs
 
-returns-2 : tie.Need-returns-2
-returns-2 c = lacks-alone _ _ _ (c .before .before .before .before .before .before .before .before .before .before .before .before .before .before .before .before .before .before .before .before .pre .unrefused) _ _ (climbs-alone _ _ _ _ (c .before .before .before .before .before .before .before .before .before .before .before .before .climb .ensures) _ (c .before .before .before .before .before .before .arcs .given .1) .0) _ (c .before .before .copy .ensures)
-
 same-length-8 : tie.Need-same-length-8
 same-length-8 c = search needs
 
-same-length-9 : tie.Need-same-length-9
-same-length-9 c = search needs
-
-same-length-10 : tie.Need-same-length-10
-same-length-10 c = search needs
-
-same-length-11 : tie.Need-same-length-11
-same-length-11 c = search needs
-
-returns-3 : tie.Need-returns-3
-returns-3 c = lacks-both _ _ _ (c .before .before .before .before .before .before .before .before .before .before .before .before .before .before .before .before .before .before .before .before .before .before .before .before .before .pre .unrefused) _ _ _ _ (climbs-both _ _ _ _ (c .before .before .before .before .before .before .before .before .before .before .before .before .before .before .before .before .before .climb .ensures) _ _ (c .before .before .before .before .before .before .before .before .before .before .before .before2 .given .1) .0) _ _ (c .before .before .before .before .before .before .before .copy2 .ensures) (c .before .before .copy3 .ensures)
+returns-2 : tie.Need-returns-2
+returns-2 c = lacks _ _ _ (c .before .before .before .before .before .before .before .before .before .before .before .before .before .before .before .before .before .before .before .before .before .before .before .before .before .pre .unrefused) _ _ _ _ (climbs-none _ _ _ _ (c .before .before .before .before .before .before .before .before .before .before .before .before .before .before .before .before .before .climb .ensures) _ _ (c .before .before .before .before .before .before .before .before .before .before .before .one .given .1) .0) _ _ (c .before .before .before .before .before .before .before .copy .ensures) (c .before .before .copy2 .ensures)
 
 pub find-spec : {M : Type 1} → statement M
 find-spec =
@@ -77,11 +59,9 @@ find-spec =
     climb-requires
     enum-known-at
     finish-low-requires
-    enum-known-arcs
+    enum-known-one
     copy-requires
-    enum-known-before
     copy-requires-2
-    copy-requires-3
     same-length
     same-length-2
     same-length-3
@@ -90,9 +70,5 @@ find-spec =
     same-length-5
     same-length-6
     same-length-7
-    returns-2
     same-length-8
-    same-length-9
-    same-length-10
-    same-length-11
-    returns-3)
+    returns-2)
