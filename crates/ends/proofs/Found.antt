@@ -1,13 +1,10 @@
 -- There always are ends with circuits that show them, or circuits that show there are none; and both are said of the published inequalities.
-use mathlib.Core.Path.{_≡_, refl, sym, ap, _∙_, subst}
 use mathlib.Core.Logic.{_⊎_, inl, inr}
-use mathlib.Core.List.{List, [], _∷_, map}
-use Prim.Native.Nat.{ℕ, zero, suc, _+_, _-_, _*_, _≤_, _<_}
-use native.Mathlib.Omega.{arith}
+use mathlib.Core.List.{List}
+use Prim.Native.Nat.{ℕ, _-_, _<_}
 use Rattle.theory.specs.Arcs.{Arc, Works}
-use Rattle.theory.specs.Circuits.{Circuit}
-use Rattle.theory.specs.Ends.{AtMost, High, open-end, up-to, Upper, Range, Never, LowShown, HighShown, NoneShown}
-use Rattle.theory.proofs.Found.{None, Found, found, none-never}
+use Rattle.theory.specs.Ends.{High, Range, Never, LowShown, HighShown, NoneShown}
+use Rattle.theory.proofs.Found.{found, none-never}
 use Rattle.tables.specs.Sheets.{Sheet}
 use Rattle.tables.proofs.Laws.{Admitted}
 use Rattle.windows.specs.Arcs.{nodes, arcs}

@@ -1,7 +1,7 @@
 -- Two outcomes of Ends are equal, but for which circuits, and which of the two forms of "none", are given.
 use mathlib.Core.Path.{_≡_, refl, sym, ap, _∙_}
 use mathlib.Core.List.{List, [], _∷_, _++_}
-use Prim.Native.Nat.{ℕ, zero, suc, _*_, _≤_, _<_}
+use Prim.Native.Nat.{ℕ, _*_}
 use native.Mathlib.Omega.{arith}
 use lib.ListN.{length, drop, length-map}
 use Rattle.theory.specs.Arcs.{Arc}
@@ -10,7 +10,7 @@ use Rattle.theory.proofs.Fractions.{range-same, low-works}
 use Rattle.tables.specs.Sheets.{Sheet}
 use Rattle.windows.specs.Inequalities.{Runs}
 use Rattle.windows.specs.Circuits.{Step, numbers, stepArc}
-use Rattle.ends.specs.Ends.{Answer, found, none, refused, number, endsRefusal, Holds, arcsIn, Finds, Lacks, Outcome}
+use Rattle.ends.specs.Ends.{Answer, found, none, refused, number, Holds, arcsIn, Outcome}
 
 -- The two answers agree: the same number, and the same ends or the same refusal. Which circuits, and so their arc counts, is left open.
 abbrev pub Agree : Answer → Answer → Type 0

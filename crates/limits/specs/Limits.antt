@@ -1,5 +1,5 @@
 -- What a circuit's sums say of the climb, as the code decides it.
-use Prim.Native.Nat.{ℕ, _-_, _≤_, _<_}
+use Prim.Native.Nat.{_-_, _≤_, _<_}
 use Rattle.theory.specs.Ends.{Reduces}
 use Rattle.limits.specs.declared.Weight.{Weight}
 use Rattle.limits.specs.declared.Climb.{Climb}

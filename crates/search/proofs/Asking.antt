@@ -1,14 +1,13 @@
 -- What Ask answers to the search: it works, or a circuit is above zero. A refusal is out of the question.
-use mathlib.Core.Path.{_≡_, refl, sym, ap, _∙_, subst}
-use mathlib.Core.List.{List, _++_}
-use Prim.Native.Nat.{ℕ, zero, suc, _+_, _-_, _*_, _≤_, _<_}
+use mathlib.Core.Path.{_≡_, sym, ap, _∙_, subst}
+use mathlib.Core.List.{List}
+use Prim.Native.Nat.{ℕ, zero, _-_, _*_}
 use native.Mathlib.Omega.{arith}
 use native.Mathlib.Nat.{mul-le-mul-right}
 use lib.ListN.{length, drop, length-append, length-drop}
 use Rattle.theory.specs.Arcs.{Works}
 use Rattle.tables.specs.Sheets.{Sheet, refusal}
 use Rattle.tables.proofs.Laws.{Admitted, accepted}
-use Rattle.windows.specs.Arcs.{nodes, arcs}
 use Rattle.windows.specs.Circuits.{numbers, stepsIn}
 use Rattle.windows.proofs.Endless.{meaning}
 use Rattle.windows.proofs.Limits.{nodes-few}
@@ -19,7 +18,7 @@ use Rattle.ask.specs.Answers.{answer}
 use Rattle.ask.specs.declared.Asked.{Asked}
 use Rattle.ask.specs.declared.Asked.the-variants as asked
 use Rattle.ask.proofs.Room.{unrefused}
-use Rattle.search.specs.Climbs.{Beats, LowHeld, HighHeld}
+use Rattle.search.specs.Climbs.{Beats}
 use Rattle.search.specs.Searches.{Ready, Asks, Judged, Stands}
 use Rattle.limits.specs.declared.Weight.{Weight}
 use Rattle.weights.specs.Weights.{weightsOf, Lists}

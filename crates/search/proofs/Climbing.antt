@@ -1,20 +1,19 @@
 -- What a circuit above zero does to the climb and to the descent, said of the buffers and sums that the code has.
-use mathlib.Core.Path.{_≡_, refl, sym, ap, _∙_, subst}
-use mathlib.Core.Logic.{_⊎_, inl, inr}
-use mathlib.Core.List.{List, [], _∷_, _++_, map}
-use Prim.Native.Nat.{ℕ, zero, suc, _+_, _-_, _*_, _≤_, _<_}
+use mathlib.Core.Path.{_≡_, refl, ap, _∙_}
+use mathlib.Core.Logic.{inl, inr}
+use mathlib.Core.List.{List, [], _++_, map}
+use Prim.Native.Nat.{ℕ, zero, _+_, _-_, _*_, _≤_, _<_}
 use native.Mathlib.Omega.{arith}
 use lib.ListN.{length, take, drop}
 use lib.Seq.{take-at}
-use Rattle.theory.specs.Arcs.{Works}
-use Rattle.theory.specs.Circuits.{Above, ups, downs, forths, backs, Falling, Climbing, Level, Gaining}
-use Rattle.theory.specs.Ends.{AtMost, Under, Reduces, NoneShown, single}
+use Rattle.theory.specs.Circuits.{ups, downs, forths, backs}
+use Rattle.theory.specs.Ends.{Under, Reduces, single}
 use Rattle.theory.proofs.Slopes.{falling-gains}
-use Rattle.theory.proofs.Found.{Low, Top, climb-on, climb-both, descend-climbs, descend-on}
+use Rattle.theory.proofs.Found.{climb-on, climb-both, descend-climbs, descend-on}
 use Rattle.tables.specs.Sheets.{Sheet, refusal}
 use Rattle.tables.proofs.Laws.{accepted}
 use Rattle.windows.specs.Arcs.{nodes, arcs}
-use Rattle.windows.specs.Circuits.{Step, numbers, stepArc, stepsIn, CircuitOf}
+use Rattle.windows.specs.Circuits.{Step, numbers, stepArc, stepsIn}
 use Rattle.windows.proofs.Limits.{sheet-laid}
 use Rattle.windows.proofs.Numbers.{numbers-length}
 use Rattle.weights.specs.Weights.{weightsOf, Lists}

@@ -1,8 +1,8 @@
 -- What the climb and the descent leave, as the code hands it on: a buffer of the work's own holds a circuit, and what that circuit shows.
 use mathlib.Core.Path.{_≡_}
 use mathlib.Core.Logic.{_⊎_}
-use mathlib.Core.List.{List, [], _∷_, _++_, map}
-use Prim.Native.Nat.{ℕ, _≤_, _<_}
+use mathlib.Core.List.{List, [], _++_, map}
+use Prim.Native.Nat.{ℕ, _<_}
 use lib.ListN.{length}
 use Rattle.theory.specs.Arcs.{Arc, Works}
 use Rattle.theory.specs.Circuits.{Above}

@@ -13,8 +13,8 @@ use weights::weigh;
 ghost use mathlib.Core.Path.{_≡_};
 ghost use lib.ListN.{length};
 ghost use Rattle.tables.specs.Sheets.{sheet};
-ghost use Rattle.search.specs.Copies.{copied, Fits};
-ghost use Rattle.search.specs.Searches.{Ready, Asks, Judged, Gains, Rises, Turns, Falls, Stands, Fresh, Climbs, Hangs, HighStands, Rests, Overhead, Descends};
+ghost use Rattle.search.specs.Copies.{Fits};
+ghost use Rattle.search.specs.Searches.{Ready, Asks, Judged, Gains, Rises, Turns, Falls, Fresh, Climbs, HighStands, Rests, Overhead, Descends};
 
 // A cycle time above every limit: a circuit has at most 192 arcs, of at most 1,000,000 each.
 const ABOVE: u64 = 192000001;

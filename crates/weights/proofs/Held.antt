@@ -1,10 +1,9 @@
 -- A circuit that Ask gave, as the code of Ends reads it again: its arcs name windows, and its sums are those of the arcs.
-use mathlib.Core.Path.{_≡_, refl, sym, ap, _∙_, subst}
-use mathlib.Core.Logic.{_⊎_, inl, inr}
+use mathlib.Core.Path.{_≡_, sym, ap, _∙_, subst}
 use mathlib.Core.List.{List, [], _∷_, _++_, map}
 use Prim.Native.Nat.{ℕ, zero, suc, _+_, _*_, _≤_, _<_}
 use native.Mathlib.Omega.{arith}
-use lib.ListN.{getD, length, drop, length-append, length-map}
+use lib.ListN.{getD, length, length-append, length-map}
 use Rattle.theory.proofs.Loops.{circuit-length}
 use Rattle.tables.specs.Sheets.{Sheet, refusal}
 use Rattle.tables.proofs.Laws.{accepted}
@@ -14,7 +13,7 @@ use Rattle.windows.specs.Circuits.{Step, numbers, stepAt, stepsIn, stepArc, Val
 use Rattle.windows.proofs.Laying.{arcs-within}
 use Rattle.windows.proofs.Limits.{number-small, nodes-few}
 use Rattle.windows.proofs.Numbers.{numbers-length, getD-four, step-at, steps-in}
-use Rattle.weights.specs.Weights.{weightsOf, Names, NamesAt, Lists}
+use Rattle.weights.specs.Weights.{weightsOf, NamesAt, Lists}
 
 -- the kind that stands at an arc is below 4
 kind-at : (cs : List Step) (rest : List ℕ) (k : ℕ) → k < length cs → getD (numbers cs ++ rest) (4 * k) 0 < 4

@@ -1,15 +1,14 @@
 -- Where the window that four numbers name stands in the tables, in the code's own numbers.
-use mathlib.Core.Path.{_≡_, refl, sym, ap, _∙_}
-use mathlib.Core.List.{List}
-use Prim.Native.Nat.{ℕ, zero, suc, pred, _+_, _-_, _*_, _/_, _%_, _≤_, _<_}
+use mathlib.Core.Path.{_≡_, sym, ap, _∙_}
+use Prim.Native.Nat.{ℕ, pred, _+_, _-_, _*_, _/_, _≤_, _<_}
 use native.Mathlib.Omega.{arith}
 use native.Mathlib.Nat.{mul-le-mul, mod-eq-of-lt, div-eq-of-lt, div-self}
 use lib.ListN.{getD, length}
-use lib.IntN.{ℤ, pos}
-use Rattle.tables.specs.Sheets.{Sheet, noWindow, place, places}
-use Rattle.tables.proofs.Laws.{Admitted, accepted}
-use Rattle.windows.specs.Windows.{number, mode}
-use Rattle.windows.specs.Circuits.{kindOf, limit}
+use lib.IntN.{pos}
+use Rattle.tables.specs.Sheets.{Sheet, noWindow, place}
+use Rattle.tables.proofs.Laws.{accepted}
+use Rattle.windows.specs.Windows.{mode}
+use Rattle.windows.specs.Circuits.{limit}
 use Rattle.windows.proofs.Limits.{place-below, getD-any}
 use Rattle.windows.proofs.Numbers.{number-kind}
 use Rattle.weights.specs.Weights.{stepOf, Names}

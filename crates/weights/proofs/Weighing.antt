@@ -1,12 +1,10 @@
 -- What one arc adds to a circuit's sums, by its kind, and the sums of one arc more.
 use mathlib.Core.Path.{_≡_, refl, sym, ap, _∙_, subst}
 use mathlib.Core.List.{List, [], _∷_, _++_, map}
-use Prim.Native.Nat.{ℕ, zero, suc, pred, _+_, _*_, _/_, _≤_, _<_}
+use Prim.Native.Nat.{ℕ, zero, suc, _+_, _/_, _≤_}
 use native.Mathlib.Omega.{arith}
 use native.Mathlib.Numerals.{add-one}
 use native.Mathlib.Nat.{div-eq-of-lt}
-use lib.IntN.{ℤ}
-use lib.ListN.{length}
 use Rattle.theory.specs.Circuits.{total, ups, downs, forths, backs}
 use Rattle.theory.specs.Arcs.{Arc}
 use Rattle.theory.proofs.Walks.{total-append}

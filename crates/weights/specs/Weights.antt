@@ -1,13 +1,13 @@
 -- A circuit's sums, as the code adds them up: "a circuit's total with q = 1 is W + c·(cycle time)". W is ups - downs, c is forths - backs.
 use mathlib.Core.Path.{_≡_}
-use mathlib.Core.List.{List, [], _∷_, _++_, map}
+use mathlib.Core.List.{List, map}
 use Prim.Native.Nat.{ℕ, _+_, _*_, _≤_, _<_}
 use lib.ListN.{length, getD}
 use lib.IntN.{ℤ}
 use Rattle.theory.specs.Circuits.{ups, downs, forths, backs}
 use Rattle.tables.specs.Sheets.{Sheet, refusal}
 use Rattle.windows.specs.Windows.{Kind, A0, B0, A1, B1}
-use Rattle.windows.specs.Circuits.{Step, kindOf, stepAt, stepsIn, limit, stepArc, Valid, AllValid}
+use Rattle.windows.specs.Circuits.{Step, kindOf, limit, stepArc, Valid}
 use Rattle.limits.specs.declared.Weight.{Weight}
 
 -- the step of four numbers

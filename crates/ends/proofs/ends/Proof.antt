@@ -1,7 +1,6 @@
 -- `ends::ends` meets its contract: the refusals in their order; what is not refused is searched.
-use mathlib.Core.Path.{_≡_, refl, sym, ap, _∙_}
-use mathlib.Core.Bool.{Bool, true, false}
-use Prim.Native.Nat.{ℕ, _*_, _≤_}
+use mathlib.Core.Path.{_≡_, refl, sym, _∙_}
+use Prim.Native.Nat.{_*_, _≤_}
 use native.Mathlib.Omega.{arith}
 use borrow.Author.Tests.{not-true, not-false}
 use Rattle.tables.specs.Sheets.{Sheet, sheet, refusal}
@@ -11,11 +10,6 @@ use Rattle.ends.proofs.Finishing.{refused-sheet, refused-9, refused-non
 use borrow.Author.Needs.{needs}
 use Rattle.ends.proofs.ends.Statement.{statement}
 use Rattle.ends.proofs.ends.Tie as tie
-use Rattle.ends.proofs.ends.Reads as reads
-use Rattle.ends.proofs.ends.Lts as lts
-use Rattle.ends.proofs.is_roomy.Reads as is-roomy-reads
-use Rattle.ends.proofs.settle.Reads as settle-reads
-use Rattle.tables.proofs.judge.Reads as judge-reads
 
 abbrev S : tie.Start → Sheet
 S c = let a = c .args in sheet (a .n) (a .m) (a .positions) (a .tables .now) (a .schedule .now)
@@ -27,39 +21,30 @@ clean c = sym (c .if1 .left) ∙ c .before .judge .ensures
 few : (c : tie.Else1) → let s = c .before .before .before .before .before in s .args .positions * s .args .n ≤ 192
 few c = let s = c .before .before .before .before .before in nodes-few (S s) (accepted (S s) (sym (clean c)))
 
--- src/lib.rt:174:9
 judge-requires : tie.Need-judge-requires
 judge-requires c κs = search needs
 
--- src/lib.rt:176:9
 returns : tie.Need-returns
 returns c = let s = c .before .before .before .before .before in (refused-sheet (S s) (s .args .first .now) (s .args .second .now) (c .before .judge .result) (c .before .judge .ensures) (c .if1 .taken), c .if1 .taken, refl, refl)
 
--- src/lib.rt:178:18
 mul-is-roomy : tie.Need-mul-is-roomy
 mul-is-roomy c = omega (arith, few c)
 
--- src/lib.rt:178:9
 is-roomy-requires : tie.Need-is-roomy-requires
 is-roomy-requires c κs = few c
 
--- src/lib.rt:179:9
 returns-2 : tie.Need-returns-2
 returns-2 c = let s = c .before .before .before .before .before .before .before in (refused-9 (S s) (s .args .first .now) (s .args .second .now) (clean (c .before .before)) (sym (c .before .is-roomy .ensures) ∙ not-true _ (c .if2 .taken)), (λ e. omega arith), refl, refl)
 
--- src/lib.rt:181:5
 settle-requires : tie.Need-settle-requires
 settle-requires c κs = let s = c .before .before .before .before .before .before .before .before .before in refused-none (S s) (s .args .first .now) (s .args .second .now) (clean (c .before .before .before .before)) (sym (c .before .before .before .is-roomy .ensures) ∙ not-false _ (c .before .before .if2 .left))
 
--- src/lib.rt:163:1
 same-length : tie.Need-same-length
 same-length c = search needs
 
--- src/lib.rt:163:1
 same-length-2 : tie.Need-same-length-2
 same-length-2 c = search needs
 
--- src/lib.rt:163:1
 returns-3 : tie.Need-returns-3
 returns-3 c = search needs
 

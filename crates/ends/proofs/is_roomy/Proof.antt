@@ -3,22 +3,16 @@ use borrow.Author.Tests.{le-leb, lt-leb}
 use borrow.Author.Needs.{needs}
 use Rattle.ends.proofs.is_roomy.Statement.{statement}
 use Rattle.ends.proofs.is_roomy.Tie as tie
-use Rattle.ends.proofs.is_roomy.Reads as reads
-use Rattle.ends.proofs.is_roomy.Lts as lts
 
--- src/lib.rt:158:5
 mul-if1 : tie.Need-mul-if1
 mul-if1 c = search needs
 
--- src/lib.rt:158:27
 mul-result : tie.Need-mul-result
 mul-result c = search needs
 
--- src/lib.rt:154:1
 returns : tie.Need-returns
 returns c = rw (le-leb _ _ (c .if1 .taken))
 
--- src/lib.rt:154:1
 returns-2 : tie.Need-returns-2
 returns-2 c = rw (lt-leb _ _ (c .if1 .left))
 

@@ -1,5 +1,5 @@
 -- `weights::crossing` meets its contract: the last position divided by their number is 1, an earlier one 0.
-use mathlib.Core.Path.{_≡_, sym, _∙_}
+use mathlib.Core.Path.{sym, _∙_}
 use native.Mathlib.Omega.{arith}
 use borrow.Author.Needs.{needs}
 use Rattle.weights.proofs.Places.{crosses-last, crosses-not}

@@ -1,5 +1,5 @@
 -- `weights::limit` meets its contract: the place of the window that the four numbers name, with the mode that the schedule has there.
-use mathlib.Core.Path.{_≡_, sym, ap, _∙_}
+use mathlib.Core.Path.{ap, _∙_}
 use native.Mathlib.Omega.{arith}
 use Prim.Native.Nat.{ℕ, _-_}
 use lib.ListN.{getD}

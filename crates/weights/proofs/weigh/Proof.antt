@@ -1,20 +1,14 @@
 -- `weights::weigh` meets its contract. The invariant: the total is the sums of the first k arcs, and small; the measure is what is left.
-use mathlib.Core.Path.{_≡_, refl, sym, ap, _∙_}
-use Prim.Native.Nat.{ℕ, _+_, _-_, _≤_}
+use mathlib.Core.Path.{_≡_}
+use Prim.Native.Nat.{_-_, _≤_}
 use native.Mathlib.Omega.{arith}
-use native.Mathlib.Numerals.{add-one}
 use native.Mathlib.Nat.{le-antisymm}
-use borrow.Author.Needs.{needs}
 use Rattle.tables.specs.Sheets.{sheet}
-use Rattle.windows.specs.Circuits.{stepAt, stepsIn}
+use Rattle.windows.specs.Circuits.{stepsIn}
 use Rattle.weights.specs.Weights.{weightsOf, Light}
 use Rattle.weights.proofs.Weighing.{weights-none, weights-step, weights-all, light-more}
 use Rattle.weights.proofs.weigh.Statement.{statement}
 use Rattle.weights.proofs.weigh.Tie as tie
-use Rattle.weights.proofs.weigh.Reads as reads
-use Rattle.weights.proofs.weigh.Lts as lts
-use Rattle.weights.proofs.add.Reads as add-reads
-use Rattle.weights.proofs.weigh_at.Reads as weigh-at-reads
 
 abbrev Inv-loop : tie.InvT-loop
 Inv-loop n m positions tables schedule circuit count total₀ k₀ total k =

@@ -1,5 +1,5 @@
 -- `weights::weigh_arc` meets its contract: the parts of the limit and the crossing are those of the arc, whatever its kind.
-use mathlib.Core.Path.{_≡_, ap, _∙_}
+use mathlib.Core.Path.{ap, _∙_}
 use native.Mathlib.Omega.{arith}
 use borrow.Author.Needs.{needs}
 use Rattle.windows.specs.Arcs.{up, down}
