@@ -20,9 +20,9 @@ use crate::tried::Tried;
 pub fn limit(kind: Kind) -> usize {
     match kind {
         Kind::Reader | Kind::Writer => 16,
-        Kind::Ask => 256,
-        Kind::Ends | Kind::Host => 264,
-        Kind::Report => 280,
+        Kind::Ask => 276,
+        Kind::Ends | Kind::Host => 284,
+        Kind::Report => 300,
     }
 }
 

@@ -26,6 +26,12 @@ number (accepted rounds) = 0
 number (refuted count) = 100
 number (refused k) = k
 
+-- what is returned with the number: the rounds, or the arc count; "Numbers 1 to 10 return only the number"
+abbrev pub values : Answer → List ℕ
+values (accepted rounds) = rounds ∷ []
+values (refuted count) = count ∷ []
+values (refused k) = []
+
 -- 10: "q 1..1000; p 0..1,000,000,000"
 abbrev pub timed : ℕ → ℕ → Bool
 timed p q = within 1000 q && leb p 1000000000

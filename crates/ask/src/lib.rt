@@ -235,9 +235,8 @@ fn solve(
     requires { ⌜ length (now marks) ≡ 36864 ⌝ }
     ensures { λ r. ⌜ Settles (sheet n m positions (now (tables .entry)) (now (schedule .entry))) p q (now (plan .entry)) (now (circuit .entry)) (answer r) (now (plan .exit)) (now (circuit .exit)) ⌝ }
 {
-    let listed = layout::lay_out(tables, n, m);
-    let list = listed.windows;
-    let start = listed.start;
+    let list = layout::lay_out(tables, n, m);
+    let start = layout::starts(tables, n, m);
     let job = rounds::Job {
         n: n,
         positions: positions,

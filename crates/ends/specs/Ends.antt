@@ -24,6 +24,17 @@ number (found top bottom high first second) = 0
 number (none first second) = 101
 number (refused k) = k
 
+-- high in numbers: its top and bottom, or nothing where it is open
+abbrev pub highValues : High → List ℕ
+highValues open-end = []
+highValues (up-to top bottom) = top ∷ bottom ∷ []
+
+-- what is returned with the number: "the arc counts are returned", after low and high where there are ends
+abbrev pub values : Answer → List ℕ
+values (found top bottom high first second) = top ∷ bottom ∷ highValues high ++ first ∷ second ∷ []
+values (none first second) = first ∷ second ∷ []
+values (refused k) = []
+
 -- 9: "with 4N places for each circuit"
 abbrev pub roomy : Sheet → List ℕ → List ℕ → Bool
 roomy s first second = leb (4 * nodes s) (length first) && leb (4 * nodes s) (length second)

@@ -5,7 +5,7 @@ ghost use mathlib.Core.Path.{_≡_};
 ghost use Prim.Native.Nat.{_+_, _-_, _*_, _/_, _%_, _≤_, _<_};
 ghost use lib.ListN.{length};
 ghost use Rattle.windows.specs.Arcs.{up, down};
-ghost use Rattle.layout.specs.Records.{item, windowsIn, windowOf, laidIn, Laid, Starts, Modes};
+ghost use Rattle.layout.specs.Records.{item, windowsIn, windowOf, laidIn, Laid, Starts};
 ghost use Rattle.layout.specs.Edges.{edge, edgeOf};
 
 // A window as a record of the list: its kind in numbers, the events "to" and "from", and its limit.
@@ -14,12 +14,6 @@ pub struct Window {
     pub to: u8,
     pub from: u8,
     pub w: i32,
-}
-
-// The list, in which the records of mode t stand from start[t] on, below start[t + 1].
-pub struct Listed {
-    pub windows: [Window; 4608],
-    pub start: [usize; 9],
 }
 
 // How much a limit lies above 0, or 0.
@@ -72,7 +66,7 @@ fn count(part: &[i32], n: usize) -> usize
 
 // Where the records of each of m modes begin, and after the last where they end. One mode's windows are handed on as the part of the
 // tables that starts at 4t·n².
-fn starts(tables: &[i32], n: usize, m: usize) -> [usize; 9]
+pub fn starts(tables: &[i32], n: usize, m: usize) -> [usize; 9]
     requires { ⌜ (0 < n) × (n ≤ 12) × (m ≤ 8) × (m * (4 * (n * n)) ≤ length (now tables)) ⌝ }
     ensures { λ r. ⌜ Starts (now (tables .entry)) n r m ⌝ }
 {
@@ -88,8 +82,8 @@ fn starts(tables: &[i32], n: usize, m: usize) -> [usize; 9]
     start
 }
 
-// The windows of m modes, one after the other.
-fn lay(tables: &[i32], n: usize, m: usize) -> [Window; 4608]
+// Lays out the windows of m modes, one after the other.
+pub fn lay_out(tables: &[i32], n: usize, m: usize) -> [Window; 4608]
     requires { ⌜ (0 < n) × (n ≤ 12) × (m ≤ 8) × (m * (4 * (n * n)) ≤ length (now tables)) ⌝ }
     ensures { λ r. ⌜ Laid (laidIn (now (tables .entry)) n (m * (4 * (n * n)))) r ⌝ }
 {
@@ -112,19 +106,6 @@ fn lay(tables: &[i32], n: usize, m: usize) -> [Window; 4608]
         j += 1;
     }
     list
-}
-
-// Lays out the windows of m modes.
-pub fn lay_out(tables: &[i32], n: usize, m: usize) -> Listed
-    requires { ⌜ (0 < n) × (n ≤ 12) × (m ≤ 8) × (m * (4 * (n * n)) ≤ length (now tables)) ⌝ }
-    ensures { λ r. ⌜ Modes (now (tables .entry)) n (r .windows) (r .start) m ⌝ }
-{
-    let start = starts(tables, n, m);
-    let windows = lay(tables, n, m);
-    Listed {
-        windows: windows,
-        start: start,
-    }
 }
 
 // An arc in numbers: the places of its departure and its arrival in a buffer of times, and its weight as rise - fall.

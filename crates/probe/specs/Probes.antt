@@ -49,11 +49,9 @@ pub record WriteProbed (s : Sheet) (out₀ values₀ : List ℕ) (number : ℕ) 
   pub numbered : number ≡ answer .number
   pub valued : values ≡ sets values₀ 0 (answer .values)
 
--- Ask's answer in numbers: the rounds, or the arc count
+-- Ask's answer in numbers
 abbrev pub answerAsked : Asked → Answer
-answerAsked (asked.Accepted rounds) = record { number = 0; values = rounds ∷ [] }
-answerAsked (asked.Refuted arcs) = record { number = 100; values = arcs ∷ [] }
-answerAsked (asked.Refused number) = record { number = number; values = [] }
+answerAsked a = record { number = ask.number (asked-answers.answer a); values = ask.values (asked-answers.answer a) }
 
 -- Ends' answer in numbers: low, whether there is a high, high or zeros, and the two arc counts
 abbrev pub answerFound : ℕ → ℕ → High → ℕ → ℕ → Answer
@@ -62,8 +60,8 @@ answerFound top bottom (high.UpTo c d) first second = record { number = 0; value
 
 abbrev pub answerEnded : Ended → Answer
 answerEnded (ended.Found top bottom h first second) = answerFound top bottom h first second
-answerEnded (ended.None first second) = record { number = 101; values = first ∷ second ∷ [] }
-answerEnded (ended.Refused number) = record { number = number; values = [] }
+answerEnded (ended.None first second) = let a = ends.none first second in record { number = ends.number a; values = ends.values a }
+answerEnded (ended.Refused number) = let a = ends.refused number in record { number = ends.number a; values = ends.values a }
 
 -- Ask's outcome, for one answer
 pub record AskProbed (s : Sheet) (p q : ℕ) (plan₀ circuit₀ values₀ : List ℕ) (number : ℕ) (plan circuit values : List ℕ) : Type 0 where
@@ -81,7 +79,7 @@ pub record EndsProbed (s : Sheet) (first₀ second₀ values₀ : List ℕ) (num
 
 -- the report's answer in numbers: the text's length
 abbrev pub answerTold : Told → Answer
-answerTold (told.Written length) = record { number = 0; values = length ∷ [] }
+answerTold (told.Written count) = record { number = 0; values = count ∷ [] }
 answerTold (told.Refused number) = record { number = number; values = [] }
 
 -- the report's outcome, for one answer

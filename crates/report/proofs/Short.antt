@@ -4,13 +4,11 @@ use mathlib.Core.Logic.{_⊎_, inl, inr}
 use mathlib.Core.List.{List, [], _∷_, _++_, map}
 use Prim.Native.Nat.{ℕ, zero, suc, _+_, _*_, _≤_, _<_}
 use native.Mathlib.Omega.{arith}
-use native.Mathlib.Nat.{mul-le-mul-right}
 use lib.ListN.{getD, length, length-append, length-map}
 use Rattle.text.specs.Text.{decimal}
 use Rattle.text.proofs.Values.{tens, decimal-most, decimal-few}
 use Rattle.theory.specs.Ends.{High, open-end, up-to}
 use Rattle.theory.specs.Arcs.{Rounds}
-use Rattle.theory.proofs.Loops.{rounds-few}
 use Rattle.theory.proofs.Turning.{map-append}
 use Rattle.tables.specs.Sheets.{Sheet, refusal}
 use Rattle.tables.proofs.Laws.{Admitted, Sizes, accepted}
@@ -19,12 +17,11 @@ use Rattle.sheet.specs.File as file
 use Rattle.windows.specs.Windows.{number}
 use Rattle.windows.specs.Arcs.{node, nodes, oneTo, each, arcs}
 use Rattle.windows.specs.Circuits.{Step, Valid, AllValid, CircuitOf}
-use Rattle.windows.proofs.Laying.{node-inside, arcs-within}
+use Rattle.windows.proofs.Laying.{node-inside}
 use Rattle.windows.proofs.Limits.{number-small, nodes-few}
 use Rattle.windows.proofs.Listed.{each-more}
 use Rattle.ask.specs.Ask.{Earliest}
-use Rattle.ask.proofs.Unique.{plan-table}
-use Rattle.ask.proofs.Bounds.{table-small}
+use Rattle.ask.proofs.Bounds.{plan-small}
 use Rattle.ends.specs.Ends.{Holds}
 use Rattle.lines.specs.Lines.{low-word, high-word, first-word, second-word, refused-word, none-word, ends-word, plan-word, following, line, fraction, highSpelled, arcLine, circuitLines, highLines, numbersLine, timesAt, planLines}
 use Rattle.report.specs.Report.{TellsEnds, TellsNone, Tells, room}
@@ -124,13 +121,8 @@ module _ (s : Sheet) (admitted : refusal s ≡ 0) (p q r : ℕ) (plan : List ℕ
   z : Sizes s
   z = accepted s admitted .size
 
-  some-nodes : 0 < nodes s
-  some-nodes = omega (arith, mul-le-mul-right (s .n) (z .some-positions), z .some-events)
-
   time-small : (v : ℕ) → v < nodes s → Small (getD plan v 0)
-  time-small v below =
-      subst Small (sym (plan-table s p q (z .some-positions) (z .some-events) plan r is rounds v below))
-      (table-small s (accepted s admitted) p q few small r v (rounds-few (arcs s) p q (nodes s) r some-nodes (arcs-within s (z .some-positions)) rounds))
+  time-small v below = plan-small s (accepted s admitted) p q r few small plan is rounds v below
 
   line-short : (h : ℕ) → length (numbersLine (timesAt s plan h)) ≤ s .n * 13
   line-short h =

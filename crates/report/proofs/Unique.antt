@@ -4,7 +4,7 @@ use mathlib.Core.Logic.{_⊎_, inl, inr}
 use mathlib.Core.List.{List, [], _∷_, _++_, map}
 use Prim.Native.Nat.{ℕ, zero, suc, _+_, _*_, _≤_, _<_}
 use native.Mathlib.Omega.{arith}
-use lib.ListN.{getD, length, take}
+use lib.ListN.{getD, length, take, drop}
 use Rattle.text.specs.Text.{decimal}
 use Rattle.theory.specs.Arcs.{table, Rounds}
 use Rattle.theory.specs.Ends.{High}
@@ -21,10 +21,11 @@ use Rattle.sheet.proofs.Front.{front}
 use Rattle.windows.specs.Inequalities.{Runs}
 use Rattle.windows.specs.Arcs.{node, nodes, arcs, oneTo, each}
 use Rattle.windows.proofs.Listed.{each-more}
+use Rattle.windows.specs.Circuits.{Step}
 use Rattle.windows.proofs.Laying.{node-inside}
 use Rattle.ask.specs.Ask.{Earliest}
 use Rattle.ask.proofs.Unique.{plan-table}
-use Rattle.lines.specs.Lines.{plan-word, line, numbersLine, timesAt, planLines}
+use Rattle.lines.specs.Lines.{ends-word, low-word, none-word, first-word, second-word, plan-word, line, fraction, highSpelled, circuitLines, highLines, numbersLine, timesAt, planLines}
 use Rattle.report.specs.Report.{TellsEnds, TellsNone, Tells, judged, Reports, room, Answer, number, Outcome}
 use Rattle.report.specs.Report as report
 
@@ -112,3 +113,31 @@ refused-same bytes out₀ k j out out′ x y = x .2 ∙ sym (y .2)
 pub written-same : (bytes out₀ : List ℕ) (c d : ℕ) (out out′ : List ℕ) (x : Outcome bytes out₀ (report.written c) out) (y : Outcome bytes out₀ (report.written d) out′)
     → Agree (sheetIn (take judged bytes)) (x .1) (y .1) (x .2) (y .2)
 written-same bytes out₀ c d out out′ x y = reports-same bytes (x .1) (y .1) (x .2) (y .2)
+
+-- ---- where the circuits are the same, so is all else
+
+-- THEOREM: two reports of ends with the same circuits are the same text
+pub ends-text-same : (s : Sheet) → Sizes s → (text text′ : List ℕ) (a : TellsEnds s text) (b : TellsEnds s text′) → a .finds .first-holds .steps ≡ b .finds .first-holds .steps
+    → a .finds .second-holds .steps ≡ b .finds .second-holds .steps → text ≡ text′
+ends-text-same s z text text′ a b first second =
+    let e = ends-same s z text text′ a b in
+    let lines : line ends-word (fraction (a .top) (a .bottom) ∷ highSpelled (a .high) ∷ []) ≡ line ends-word (fraction (b .top) (b .bottom) ∷ highSpelled (b .high) ∷ []) =
+    same (a .top) (a .bottom) (a .high) (b .top) (b .bottom) (b .high) (e .0) (e .1) (e .2) in
+    let lows = ap (circuitLines low-word) first in
+    let highs = ap₂ highLines (e .2) second in
+    a .text-is ∙ ap₂ (λ (x y : List ℕ). x ++ y) (ap₂ (λ (x y : List ℕ). x ++ y) (ap₂ (λ (x y : List ℕ). x ++ y) lines lows) highs) (e .3) ∙ sym (b .text-is)
+  where
+    same : (t b : ℕ) (h : High) (t′ b′ : ℕ) (h′ : High) → t ≡ t′ → b ≡ b′ → h ≡ h′ → line ends-word (fraction t b ∷ highSpelled h ∷ []) ≡ line ends-word (fraction t′ b′ ∷ highSpelled h′ ∷ [])
+    same t b h t′ b′ h′ x y z = cc
+
+-- THEOREM: and so are two of none
+pub none-text-same : (s : Sheet) (text text′ : List ℕ) (a : TellsNone s text) (b : TellsNone s text′) → a .lacks .first-holds .steps ≡ b .lacks .first-holds .steps
+    → a .lacks .second-holds .steps ≡ b .lacks .second-holds .steps → text ≡ text′
+none-text-same s text text′ a b first second =
+    a .text-is ∙ ap₂ (λ (x y : List Step). line none-word [] ++ circuitLines first-word x ++ circuitLines second-word y) first second ∙ sym (b .text-is)
+
+-- THEOREM: the same text is the same answer and leaves the same buffer; a refused file's text always is
+pub buffer-same : (bytes out₀ : List ℕ) (c d : ℕ) (out out′ : List ℕ) (x : Outcome bytes out₀ (report.written c) out) (y : Outcome bytes out₀ (report.written d) out′) → x .1 ≡ y .1 → (c ≡ d) × (out ≡ out′)
+buffer-same bytes out₀ c d out out′ x y e =
+    let count : c ≡ d = sym (x .3) ∙ ap length e ∙ y .3 in
+    (count, x .4 ∙ ap₂ (λ (t : List ℕ) (k : ℕ). t ++ drop k out₀) e count ∙ sym (y .4))

@@ -17,7 +17,7 @@ use Rattle.report.specs.declared.Told.{Told}
 use Rattle.report.specs.declared.Told.the-variants as told
 
 abbrev pub answer : Told → report.Answer
-answer (told.Written length) = report.written length
+answer (told.Written count) = report.written count
 answer (told.Refused number) = report.refused number
 
 -- a text that says so stands in the buffer, from its start

@@ -55,7 +55,7 @@ Reads file tables₀ schedule₀ answer tables schedule = reading (answerRead an
 
 -- 0, "done", with "the sheet's length"
 abbrev pub answerWritten : Written → Answer
-answerWritten (wrote.Done length) = record { number = 0; values = length ∷ [] }
+answerWritten (wrote.Done count) = record { number = 0; values = count ∷ [] }
 answerWritten (wrote.Refused k) = record { number = k; values = [] }
 
 -- what the writer leaves

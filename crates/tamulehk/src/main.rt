@@ -14,10 +14,10 @@ fn print(file: &[u8], out: &mut [u8]) {
     }
 }
 
-// Of a longer file the first 27,685 bytes are judged, and so are all that is read.
+// Of a longer file only so many bytes are judged, and so no more are read. A read that fails midway ends the file there.
 fn main() {
-    let mut file = [0u8; 27685];
+    let mut file = [0u8; report::JUDGED];
     let count = io::read_full(STDIN_FILENO, &mut file);
-    let mut out = [0u8; 8192];
+    let mut out = [0u8; report::ROOM];
     print(&file[..count], &mut out);
 }
