@@ -2,12 +2,12 @@
 use mathlib.Core.Path.{_≡_}
 use mathlib.Core.Logic.{_≢_, _⊎_}
 use mathlib.Core.Bool.{Bool, _&&_}
-use mathlib.Core.List.{List, [], _++_, map}
+use mathlib.Core.List.{List, [], _∷_, _++_, map}
 use Prim.Native.Nat.{ℕ, _*_, _≤_}
 use lib.Dec.{leb}
 use lib.ListN.{length, drop}
 use Rattle.theory.specs.Arcs.{Arc}
-use Rattle.theory.specs.Ends.{High, up-to, Range, Never, LowShown, HighShown, NoneShown}
+use Rattle.theory.specs.Ends.{High, open-end, up-to, Range, Never, LowShown, HighShown, NoneShown}
 use Rattle.tables.specs.Sheets.{Sheet, unless, refusal, otherwise}
 use Rattle.windows.specs.Inequalities.{Runs}
 use Rattle.windows.specs.Arcs.{nodes, arcs}
