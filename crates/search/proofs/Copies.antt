@@ -1,5 +1,5 @@
 -- A copy of the first numbers of one list over those of another, number by number.
-use mathlib.Core.Path.{_≡_, refl, sym, ap, _∙_}
+use mathlib.Core.Path.{_≡_, sym, ap, _∙_}
 use mathlib.Core.List.{List, _++_}
 use Prim.Native.Nat.{ℕ, suc, _+_, _≤_, _<_}
 use native.Mathlib.Omega.{arith}
@@ -7,9 +7,6 @@ use native.Mathlib.Numerals.{add-one}
 use lib.ListN.{getD, length, take, drop, set, length-append, length-drop}
 use lib.Seq.{take-suc, drop-cons, set-at, append-snoc, length-take-le}
 use Rattle.search.specs.Copies.{copied}
-
-pub copied-none : (from to : List ℕ) → to ≡ copied from 0 to
-copied-none from to = refl
 
 pub copied-length : (from : List ℕ) (k : ℕ) (to : List ℕ) → k ≤ length from → k ≤ length to → length (copied from k to) ≡ length to
 copied-length from k to h g = omega (arith, length-append (take k from) (drop k to), length-drop k to, length-take-le k from h)
