@@ -10,7 +10,7 @@ use Rattle.text.specs.Text.{decimal, space, feed}
 use Rattle.text.proofs.Values.{decimal-most}
 use Rattle.theory.specs.Ends.{High, open-end, up-to}
 use Rattle.lines.specs.Lines.{high-word, following, line, fraction, highSpelled, numbersLine}
-use Rattle.lines.specs.Held.{fourLine, arcLines, circuitText, highText, timesLines, planText, endsText}
+use Rattle.lines.specs.Buffers.{fourLine, arcLines, circuitText, highText, timesLines, planText, endsText}
 
 -- a line of one, two, three and four words
 pub line-one : (a : List ℕ) → length (line a []) ≡ length a + 1

@@ -1,4 +1,3 @@
 pub mod Lengths
 pub mod Spelled
 pub mod Turns
-pub mod Texts

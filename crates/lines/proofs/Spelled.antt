@@ -13,28 +13,15 @@ use Rattle.tables.specs.Sheets.{Sheet}
 use Rattle.windows.specs.Arcs.{node, nodes, oneTo, each}
 use Rattle.windows.specs.Circuits.{Step, numbers}
 use Rattle.windows.proofs.Listed.{each-more}
-use Rattle.ends.specs.Ends.{Holds}
 use Rattle.lines.specs.Lines.{line, arcLine, circuitLines, highLines, numbersLine, timesAt, planLines, high-word, plan-word}
-use Rattle.lines.specs.Held.{fourLine, arcLines, circuitText, highText, timesLines, planText}
+use Rattle.lines.specs.Buffers.{fourLine, arcLines, circuitText, highText, timesLines, planText}
 
 -- ---- the arcs
 
-arcs-are : (steps : List Step) (rest : List ℕ) → arcLines (numbers steps ++ rest) (length steps) ≡ each steps arcLine
+pub arcs-are : (steps : List Step) (rest : List ℕ) → arcLines (numbers steps ++ rest) (length steps) ≡ each steps arcLine
 unfolding arcLines
 arcs-are [] rest = refl
 arcs-are (c ∷ steps) rest = ap (λ (t : List ℕ). arcLine c ++ t) (arcs-are steps rest)
-
-module _ (s : Sheet) (before : List ℕ) (count : ℕ) (after : List ℕ) (held : Holds s before count after) where
-  -- THEOREM: the text by a buffer is the text of the circuit in it
-  pub circuit-is : (word : List ℕ) → circuitText word after count ≡ circuitLines word (held .steps)
-  circuit-is word =
-      ap (λ (l : List ℕ). circuitText word l count) (held .written)
-      ∙ ap (λ (k : ℕ). circuitText word (numbers (held .steps) ++ drop (4 * count) before) k) (sym (held .counted))
-      ∙ ap (λ (t : List ℕ). line word (decimal (length (held .steps)) ∷ []) ++ t) (arcs-are (held .steps) (drop (4 * count) before))
-
-  pub high-is : (high : High) → highText high after count ≡ highLines high (held .steps)
-  high-is open-end = refl
-  high-is (up-to top bottom) = circuit-is high-word
 
 -- one arc more, of those from the place 4k on
 pub arcs-more : (circuit : List ℕ) (k m : ℕ) → arcLines (drop (4 * k) circuit) (suc m) ≡ fourLine (getD circuit (4 * k) 0) (getD circuit (4 * k + 1) 0) (getD circuit (4 * k + 2) 0) (getD circuit (4 * k + 3) 0) ++ arcLines (drop (4 * (k + 1)) circuit) m

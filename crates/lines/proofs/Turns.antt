@@ -1,14 +1,14 @@
 -- The loops over arcs, times and positions: each turn puts the next piece of its text.
-use mathlib.Core.Path.{_≡_, refl, sym, ap, ap₂, _∙_}
+use mathlib.Core.Path.{_≡_, refl, sym, ap, ap₂, _∙_, subst}
 use mathlib.Core.List.{List, [], _∷_, _++_, map}
 use Prim.Native.Nat.{ℕ, zero, suc, _+_, _-_, _*_, _≤_, _<_}
 use native.Mathlib.Omega.{arith}
 use lib.ListN.{getD, length, take, drop}
 use lib.Seq.{drop-cons}
 use Rattle.text.specs.Text.{decimal, space, feed, Puts}
-use Rattle.text.proofs.Puts.{Part, part-none, part-more, part-all, part-last, part-as}
+use Rattle.text.proofs.Puts.{puts-then, Part, part-none, part-more, part-all, part-last, part-as}
 use Rattle.lines.specs.Lines.{following, numbersLine}
-use Rattle.lines.specs.Held.{fourLine, arcLines, timesLines}
+use Rattle.lines.specs.Buffers.{fourLine, arcLines, timesLines}
 use Rattle.lines.proofs.Spelled.{arcs-more, times-first}
 
 all : (v : ℕ) → v ≡ v - 0
@@ -104,3 +104,8 @@ module _ (o : List ℕ) (at : ℕ) (plan : List ℕ) (a n : ℕ) where
 
       next-place : (a : ℕ) → a + 1 ≡ suc a
       next-place a = omega arith
+
+pub times-puts : {o mid out : List ℕ} {at next end : ℕ} (plan : List ℕ) (a n : ℕ) → 1 ≤ n → a + n ≤ length plan → Puts o at (decimal (getD plan a 0)) next mid
+    → Puts mid next (following (map decimal (take (n - 1) (drop (a + 1) plan)))) end out → Puts o at (numbersLine (take n (drop a plan))) end out
+times-puts {o} {mid} {out} {at} {next} {end} plan a n some long x y =
+    subst (λ (t : List ℕ). Puts o at t end out) (times-line o at plan a n some long) (puts-then {a = decimal (getD plan a 0)} x y)

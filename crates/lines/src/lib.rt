@@ -1,18 +1,16 @@
 // The lines of a report, put one after the other into a buffer: each function puts its text from a place on and gives the place after it.
-// This crate knows how the answers are spelled; it knows no call that gives them.
+// This crate knows how numbers, arcs, circuits, plans and refusals are spelled; it knows no call that gives them.
 // It renders the lines of document 01's "The report".
-use ends::High;
 ghost use mathlib.Core.List.{[], _∷_, map};
 ghost use Prim.Native.Nat.{_+_, _*_, _≤_, _<_};
 ghost use lib.ListN.{length, take, drop};
 ghost use Rattle.text.specs.Text.{decimal, space, Puts};
-ghost use Rattle.ends.specs.Answers.{highest};
-ghost use Rattle.lines.specs.Lines.{following, fraction, highSpelled, numbersLine, refusedLine};
-ghost use Rattle.lines.specs.Held.{fourLine, arcLines, circuitText, highText, timesLines, planText, endsText, foundText, noneText};
+ghost use Rattle.lines.specs.Lines.{following, fraction, numbersLine, refusedLine};
+ghost use Rattle.lines.specs.Buffers.{fourLine, arcLines, circuitText, timesLines, planText};
 
-const SPACE: u8 = 32;
+pub const SPACE: u8 = 32;
 
-const FEED: u8 = 10;
+pub const FEED: u8 = 10;
 
 const SLASH: u8 = 47;
 
@@ -57,7 +55,7 @@ fn put_arcs(out: &mut [u8], at: usize, circuit: &[u8], count: usize) -> usize
 }
 
 // A circuit: a word and the arc count, then its arcs.
-fn put_circuit(out: &mut [u8], at: usize, word: &[u8], circuit: &[u8], count: usize) -> usize
+pub fn put_circuit(out: &mut [u8], at: usize, word: &[u8], circuit: &[u8], count: usize) -> usize
     requires { ⌜ (at < 500000) × (length (now word) ≤ 100) × (count ≤ 192) × (4 * count ≤ length (now circuit)) ⌝ }
     ensures { λ r. ⌜ (r ≤ at + 16250) × Puts (now (out .entry)) at (circuitText (now (word .entry)) (now (circuit .entry)) count) r (now (out .exit)) ⌝ }
 {
@@ -68,47 +66,13 @@ fn put_circuit(out: &mut [u8], at: usize, word: &[u8], circuit: &[u8], count: us
 }
 
 // A fraction, as 5/1.
-fn put_fraction(out: &mut [u8], at: usize, top: u64, bottom: u64) -> usize
+pub fn put_fraction(out: &mut [u8], at: usize, top: u64, bottom: u64) -> usize
     requires { ⌜ at < 800000 ⌝ }
     ensures { λ r. ⌜ (r ≤ at + 41) × Puts (now (out .entry)) at (fraction top bottom) r (now (out .exit)) ⌝ }
 {
     let a = text::put_number(out, at, top);
     let b = text::put_byte(out, a, SLASH);
     text::put_number(out, b, bottom)
-}
-
-// The highest cycle time, or that there is none.
-fn put_highest(out: &mut [u8], at: usize, high: High) -> usize
-    requires { ⌜ at < 800000 ⌝ }
-    ensures { λ r. ⌜ (r ≤ at + 41) × Puts (now (out .entry)) at (highSpelled (highest high)) r (now (out .exit)) ⌝ }
-{
-    match high {
-        High::Open => text::put_word(out, at, b"open"),
-        High::UpTo { top, bottom } => put_fraction(out, at, top, bottom),
-    }
-}
-
-// The first line of a sheet with ends.
-fn put_ends(out: &mut [u8], top: u64, bottom: u64, high: High) -> usize
-    ensures { λ r. ⌜ (r ≤ 100) × Puts (now (out .entry)) 0 (endsText top bottom (highest high)) r (now (out .exit)) ⌝ }
-{
-    let a = text::put_word(out, 0, b"ends");
-    let b = text::put_byte(out, a, SPACE);
-    let c = put_fraction(out, b, top, bottom);
-    let d = text::put_byte(out, c, SPACE);
-    let e = put_highest(out, d, high);
-    text::put_byte(out, e, FEED)
-}
-
-// The circuit of the highest cycle time, only if that is not open.
-fn put_high(out: &mut [u8], at: usize, high: High, circuit: &[u8], count: usize) -> usize
-    requires { ⌜ (at < 400000) × (count ≤ 192) × (4 * count ≤ length (now circuit)) ⌝ }
-    ensures { λ r. ⌜ (r ≤ at + 16250) × Puts (now (out .entry)) at (highText (highest high) (now (circuit .entry)) count) r (now (out .exit)) ⌝ }
-{
-    match high {
-        High::Open => at,
-        High::UpTo { .. } => put_circuit(out, at, b"high", circuit, count),
-    }
 }
 
 // n times of a plan from the place a on, each after a space, and the line's end.
@@ -166,36 +130,6 @@ pub fn put_plan(
     let c = put_spaced(out, b, rounds);
     let d = text::put_byte(out, c, FEED);
     put_positions(out, d, plan, n, positions)
-}
-
-// A sheet with ends: these and the circuits that show them.
-pub fn put_found(
-    out: &mut [u8],
-    top: u64,
-    bottom: u64,
-    high: High,
-    first: &[u8],
-    arcs: usize,
-    second: &[u8],
-    others: usize,
-) -> usize
-    requires { ⌜ (arcs ≤ 192) × (others ≤ 192) × (4 * arcs ≤ length (now first)) × (4 * others ≤ length (now second)) ⌝ }
-    ensures { λ r. ⌜ (r ≤ 40000) × Puts (now (out .entry)) 0 (foundText top bottom (highest high) (now (first .entry)) arcs (now (second .entry)) others) r (now (out .exit)) ⌝ }
-{
-    let a = put_ends(out, top, bottom, high);
-    let b = put_circuit(out, a, b"low", first, arcs);
-    put_high(out, b, high, second, others)
-}
-
-// A sheet without ends: the circuits that show it.
-pub fn put_none(out: &mut [u8], first: &[u8], arcs: usize, second: &[u8], others: usize) -> usize
-    requires { ⌜ (arcs ≤ 192) × (others ≤ 192) × (4 * arcs ≤ length (now first)) × (4 * others ≤ length (now second)) ⌝ }
-    ensures { λ r. ⌜ Puts (now (out .entry)) 0 (noneText (now (first .entry)) arcs (now (second .entry)) others) r (now (out .exit)) ⌝ }
-{
-    let a = text::put_word(out, 0, b"none");
-    let b = text::put_byte(out, a, FEED);
-    let c = put_circuit(out, b, b"first", first, arcs);
-    put_circuit(out, c, b"second", second, others)
 }
 
 // A refusal.

@@ -1,4 +1,3 @@
-pub mod Telling
 pub mod Short
 pub mod Whole
 pub mod Unique

@@ -26,7 +26,8 @@ use Rattle.windows.proofs.Laying.{node-inside}
 use Rattle.ask.specs.Ask.{Earliest}
 use Rattle.ask.proofs.Unique.{plan-table}
 use Rattle.lines.specs.Lines.{ends-word, low-word, none-word, first-word, second-word, plan-word, line, fraction, highSpelled, circuitLines, highLines, numbersLine, timesAt, planLines}
-use Rattle.report.specs.Report.{TellsEnds, TellsNone, Tells, judged, Reports, room, Answer, number, Outcome}
+use Rattle.telling.specs.Tells.{TellsEnds, TellsNone, Tells}
+use Rattle.report.specs.Report.{judged, Reports, room, Answer, number, Outcome}
 use Rattle.report.specs.Report as report
 
 -- maps that agree from 1 to n make the same list of these

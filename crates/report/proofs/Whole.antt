@@ -7,9 +7,11 @@ use lib.ListN.{length, take, drop, length-append}
 use lib.Seq.{sets-eq}
 use Rattle.sheet.specs.File.{sheetIn}
 use Rattle.sheet.proofs.Admitted.{read-admitted}
-use Rattle.report.specs.Report.{Tells, judged, room, Outcome}
+use Rattle.telling.specs.Tells.{Tells}
+use Rattle.report.specs.Report.{judged, room, Outcome}
 use Rattle.report.specs.Report as report
-use Rattle.report.specs.Told.{Stands, answer}
+use Rattle.telling.specs.Steps.{Stands}
+use Rattle.report.specs.Told.{answer}
 use Rattle.report.specs.declared.Told.{Told}
 use Rattle.report.specs.declared.Told.the-variants as told
 use Rattle.report.proofs.Short.{text-short}

@@ -1,8 +1,6 @@
 // The report of a sheet file: what the bench's lead reads in the morning.
-// This crate knows the order of the report's lines and which call answers each; the program around it only reads and writes.
+// This crate knows how much of a file is judged and how much room a report takes; the program around it only reads and writes.
 // It renders document 01's "The report".
-mod tell;
-
 ghost use Rattle.report.specs.Report.{Outcome};
 ghost use Rattle.report.specs.Told.{answer};
 
@@ -28,10 +26,10 @@ pub fn report(file: &[u8], out: &mut [u8]) -> Told
     }
     if file.len() <= JUDGED {
         return Told::Written {
-            length: tell::tell(file, out),
+            length: telling::tell(file, out),
         };
     }
     Told::Written {
-        length: tell::tell(&file[..JUDGED], out),
+        length: telling::tell(&file[..JUDGED], out),
     }
 }

@@ -1,6 +1,6 @@
 -- `lines::put_times` meets its contract: its first, and then the others.
 use native.Mathlib.Omega.{arith}
-use Rattle.lines.proofs.Texts.{times-puts}
+use Rattle.lines.proofs.Turns.{times-puts}
 use borrow.Author.Needs.{needs}
 use Rattle.lines.proofs.put_times.Statement.{statement}
 use Rattle.lines.proofs.put_times.Tie as tie

@@ -8,7 +8,7 @@ use Rattle.report.proofs.report.Statement.{statement}
 use Rattle.report.proofs.report.Tie as tie
 use Rattle.report.proofs.report.Reads as reads
 use Rattle.report.proofs.report.Lts as lts
-use Rattle.report.proofs.tell.tell.Reads as tell-reads
+use Rattle.telling.proofs.tell.Reads as tell-reads
 
 -- src/lib.rt:28:9
 returns : tie.Need-returns

@@ -38,10 +38,11 @@ use Rattle.ends.specs.declared.Ended.the-variants as ended
 use Rattle.ends.specs.declared.High as declared-high
 use Rattle.weights.proofs.Held.{count-few}
 use Rattle.lines.specs.Lines.{low-word, none-word, first-word, second-word, line, circuitLines, highLines, planLines, refusedLine}
-use Rattle.lines.specs.Held.{planText, endsText, foundText, noneText}
-use Rattle.report.specs.Report.{TellsEnds, TellsNone, Tells}
-use Rattle.report.specs.Told.{Stands, Low, PlanStands, Found}
-use Rattle.lines.proofs.Spelled.{circuit-is, high-is, plan-is}
+use Rattle.lines.specs.Buffers.{planText, endsText, foundText, noneText}
+use Rattle.telling.specs.Tells.{TellsEnds, TellsNone, Tells}
+use Rattle.telling.specs.Steps.{Stands, Low, PlanStands, Found}
+use Rattle.lines.proofs.Spelled.{plan-is}
+use Rattle.endings.proofs.Spelled.{circuit-is, high-is}
 
 module _ (s : Sheet) (admitted : refusal s ≡ 0) where
   ok : Admitted s

@@ -1,13 +1,13 @@
--- `lines::put_high` meets its contract: nothing where the end is open.
-use Rattle.lines.proofs.Texts.{open-lines, high-lines}
+-- `endings::put_high` meets its contract: nothing where the end is open.
+use Rattle.endings.proofs.Texts.{open-lines, high-lines}
 use Rattle.text.proofs.Puts.{nothing-puts}
 use native.Mathlib.Omega.{arith}
 use borrow.Author.Needs.{needs}
-use Rattle.lines.proofs.put_high.Statement.{statement}
-use Rattle.lines.proofs.put_high.Tie as tie
-use Rattle.lines.proofs.put_high.Reads as reads
-use Rattle.lines.proofs.put_high.Lts as lts
+use Rattle.endings.proofs.put_high.Statement.{statement}
+use Rattle.endings.proofs.put_high.Tie as tie
+use Rattle.endings.proofs.put_high.Reads as reads
+use Rattle.endings.proofs.put_high.Lts as lts
 use Rattle.lines.proofs.put_circuit.Reads as put-circuit-reads
 
 -- src/lib.rt:109:23
 enum-told : tie.Need-enum-told

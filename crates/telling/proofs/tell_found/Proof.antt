@@ -1,16 +1,16 @@
--- `report::tell::tell_found` meets its contract.
-use Rattle.report.proofs.Telling.{few-192, low-ready, found-told}
+-- `telling::tell_found` meets its contract.
+use Rattle.telling.proofs.Telling.{few-192, low-ready, found-told}
 use native.Mathlib.Omega.{arith}
 use mathlib.Core.Path.{refl}
 use borrow.Author.Needs.{needs}
-use Rattle.report.proofs.tell.tell_found.Statement.{statement}
-use Rattle.report.proofs.tell.tell_found.Tie as tie
-use Rattle.report.proofs.tell.tell_found.Reads as reads
-use Rattle.report.proofs.tell.tell_found.Lts as lts
-use Rattle.lines.proofs.put_found.Reads as put-found-reads
-use Rattle.report.proofs.tell.tell_plan.Reads as tell-plan-reads
+use Rattle.telling.proofs.tell_found.Statement.{statement}
+use Rattle.telling.proofs.tell_found.Tie as tie
+use Rattle.telling.proofs.tell_found.Reads as reads
+use Rattle.telling.proofs.tell_found.Lts as lts
+use Rattle.endings.proofs.put_found.Reads as put-found-reads
+use Rattle.telling.proofs.tell_plan.Reads as tell-plan-reads
 
--- src/tell.rt:61:9
+-- src/lib.rt:61:9
 put-found-requires : tie.Need-put-found-requires
 put-found-requires c κs =
     let f = c .before .before .before .before .before .pre in
@@ -18,23 +18,23 @@ put-found-requires c κs =
     let b = few-192 _ (f .admitted) _ _ _ (f .finds .second-holds) in
     (a, b, omega (arith, a, f .first-room), omega (arith, b, f .second-room))
 
--- src/tell.rt:72:9
+-- src/lib.rt:72:9
 slice-aggregate-tell-plan : tie.Need-slice-aggregate-tell-plan
 slice-aggregate-tell-plan c = search needs
 
--- src/tell.rt:73:9
+-- src/lib.rt:73:9
 slice-aggregate-tell-plan-2 : tie.Need-slice-aggregate-tell-plan-2
 slice-aggregate-tell-plan-2 c = search needs
 
--- src/tell.rt:64:5
+-- src/lib.rt:64:5
 tell-plan-requires : tie.Need-tell-plan-requires
 tell-plan-requires c κs = let f = c .before .before .before .before .before .before .before .before .before .before .before .pre in (low-ready _ (f .admitted) (f .finds), refl, refl, c .before .before .before .before .before .put-found .ensures .0)
 
--- src/tell.rt:43:1
+-- src/lib.rt:43:1
 same-length : tie.Need-same-length
 same-length c = search needs
 
--- src/tell.rt:43:1
+-- src/lib.rt:43:1
 returns : tie.Need-returns
 returns c = let f = c .before .before .before .before .before .before .before .before .before .before .before .before .before .before .before .before .pre in found-told _ (f .admitted) (f .finds) (c .before .before .before .before .before .before .before .before .before .before .put-found .ensures .1) (c .before .before .before .before .tell-plan .ensures)
 

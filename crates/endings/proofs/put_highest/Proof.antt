@@ -1,12 +1,12 @@
--- `lines::put_highest` meets its contract, case by case.
-use Rattle.lines.proofs.Texts.{open-puts, up-to-puts}
+-- `endings::put_highest` meets its contract, case by case.
+use Rattle.endings.proofs.Texts.{open-puts, up-to-puts}
 use native.Mathlib.Omega.{arith}
 use borrow.Author.Needs.{needs}
-use Rattle.lines.proofs.put_highest.Statement.{statement}
-use Rattle.lines.proofs.put_highest.Tie as tie
-use Rattle.lines.proofs.put_highest.Reads as reads
-use Rattle.lines.proofs.put_highest.Lts as lts
+use Rattle.endings.proofs.put_highest.Statement.{statement}
+use Rattle.endings.proofs.put_highest.Tie as tie
+use Rattle.endings.proofs.put_highest.Reads as reads
+use Rattle.endings.proofs.put_highest.Lts as lts
 use Rattle.lines.proofs.put_fraction.Reads as put-fraction-reads
 use Rattle.text.proofs.put_word.Reads as put-word-reads
 
 -- src/lib.rt:86:38

@@ -1,5 +1,5 @@
--- `report::tell::tell_read` meets its contract: the sheet told of is the one that the bytes are read as.
-use Rattle.report.proofs.Telling.{tells-refused, tells-got}
+-- `telling::tell_read` meets its contract: the sheet told of is the one that the bytes are read as.
+use Rattle.telling.proofs.Telling.{tells-refused, tells-got}
 use Rattle.sheet.proofs.Held.{Held, held-admitted, held-sizes, held-few, read-held, read-refused}
 use Rattle.tables.proofs.Laws.{square}
 use Rattle.tables.specs.Sheets.{Sheet}
@@ -7,27 +7,27 @@ use lib.Seq.{length-take-le}
 use native.Mathlib.Omega.{arith}
 use mathlib.Core.Path.{refl, sym, subst}
 use borrow.Author.Needs.{needs}
-use Rattle.report.proofs.tell.tell_read.Statement.{statement}
-use Rattle.report.proofs.tell.tell_read.Tie as tie
-use Rattle.report.proofs.tell.tell_read.Reads as reads
-use Rattle.report.proofs.tell.tell_read.Lts as lts
+use Rattle.telling.proofs.tell_read.Statement.{statement}
+use Rattle.telling.proofs.tell_read.Tie as tie
+use Rattle.telling.proofs.tell_read.Reads as reads
+use Rattle.telling.proofs.tell_read.Lts as lts
 use Rattle.lines.proofs.put_refused.Reads as put-refused-reads
-use Rattle.report.proofs.tell.tell_admitted.Reads as tell-admitted-reads
+use Rattle.telling.proofs.tell_admitted.Reads as tell-admitted-reads
 use Rattle.sheet.proofs.read_sheet.Reads as read-sheet-reads
 
--- src/tell.rt:142:9
+-- src/lib.rt:142:9
 read-sheet-requires : tie.Need-read-sheet-requires
 read-sheet-requires c κs = search needs
 
--- src/tell.rt:144:25
+-- src/lib.rt:144:25
 enum-known-read : tie.Need-enum-known-read
 enum-known-read c = search needs
 
--- src/tell.rt:144:37
+-- src/lib.rt:144:37
 put-refused-requires : tie.Need-put-refused-requires
 put-refused-requires c κs = search needs
 
--- src/tell.rt:145:22
+-- src/lib.rt:145:22
 enum-known-read-2 : tie.Need-enum-known-read-2
 enum-known-read-2 c = search needs
 
@@ -36,67 +36,67 @@ held : (c : tie.After-known-told2) → let g = c .before .read2 .given .0 in let
     Held (s .args .file .now) (s .args .tables .now) (s .args .schedule .now) (s .pre .0) (s .pre .1) (g .0) (g .1 .0) (g .1 .1 .0) (r .last .1 .0) (r .last .1 .1 .0)
 held c = let r = c .before .before .before .before .before .before .read-sheet in read-held _ _ _ _ _ (r .result) _ _ _ _ _ (c .before .read2 .given .1) (r .ensures)
 
--- src/tell.rt:146:26
+-- src/lib.rt:146:26
 mul-places : tie.Need-mul-places
 mul-places c = omega (arith, held-sizes (held c) .few-modes)
 
--- src/tell.rt:146:35
+-- src/lib.rt:146:35
 mul-places-2 : tie.Need-mul-places-2
 mul-places-2 c = omega (arith, square _ (held-sizes (held c) .few-events))
 
--- src/tell.rt:146:26
+-- src/lib.rt:146:26
 mul-places-3 : tie.Need-mul-places-3
 mul-places-3 c = omega (arith, held-few (held c))
 
--- src/tell.rt:151:17
+-- src/lib.rt:151:17
 slice-reshare-prefix-tell-admitted : tie.Need-slice-reshare-prefix-tell-admitted
 slice-reshare-prefix-tell-admitted c = omega (arith, held-few (held c), c .before .before .before .before .before .before .read-sheet .kept .1 .0)
 
--- src/tell.rt:151:17
+-- src/lib.rt:151:17
 slice-aggregate-tell-admitted : tie.Need-slice-aggregate-tell-admitted
 slice-aggregate-tell-admitted c = let r = c .before .before .before .before .before .before .before .read-sheet in sym (length-take-le _ (r .last .1 .0) (omega (arith, held-few (held (c .before)), r .kept .1 .0)))
 
--- src/tell.rt:152:17
+-- src/lib.rt:152:17
 slice-reshare-prefix-tell-admitted-2 : tie.Need-slice-reshare-prefix-tell-admitted-2
 slice-reshare-prefix-tell-admitted-2 c = omega (arith, held-sizes (held (c .before)) .few-positions, c .before .before .before .before .before .before .before .read-sheet .kept .1 .1 .0)
 
--- src/tell.rt:152:17
+-- src/lib.rt:152:17
 slice-aggregate-tell-admitted-2 : tie.Need-slice-aggregate-tell-admitted-2
 slice-aggregate-tell-admitted-2 c = let r = c .before .before .before .before .before .before .before .before .read-sheet in sym (length-take-le _ (r .last .1 .1 .0) (omega (arith, held-sizes (held (c .before .before)) .few-positions, r .kept .1 .1 .0)))
 
--- src/tell.rt:147:13
+-- src/lib.rt:147:13
 tell-admitted-requires : tie.Need-tell-admitted-requires
 tell-admitted-requires c κs = held-admitted (held (c .before .before .before))
 
--- src/tell.rt:138:1
+-- src/lib.rt:138:1
 same-length : tie.Need-same-length
 same-length c = search needs
 
--- src/tell.rt:138:1
+-- src/lib.rt:138:1
 same-length-2 : tie.Need-same-length-2
 same-length-2 c = search needs
 
--- src/tell.rt:138:1
+-- src/lib.rt:138:1
 same-length-3 : tie.Need-same-length-3
 same-length-3 c = search needs
 
--- src/tell.rt:138:1
+-- src/lib.rt:138:1
 returns : tie.Need-returns
 returns c = let r = c .before .before .before .before .before .before .before .before .before .before .read-sheet in let s = c .before .before .before .before .before .before .before .before .before .before .before .before .before .before .before .before in tells-refused _ _ (read-refused _ _ _ (s .pre .0) (s .pre .1) (r .result) _ _ _ (c .before .before .before .before .before .read .given .1) (r .ensures)) (c .before .before .put-refused .ensures)
 
--- src/tell.rt:138:1
+-- src/lib.rt:138:1
 same-length-4 : tie.Need-same-length-4
 same-length-4 c = search needs
 
--- src/tell.rt:138:1
+-- src/lib.rt:138:1
 same-length-5 : tie.Need-same-length-5
 same-length-5 c = search needs
 
--- src/tell.rt:138:1
+-- src/lib.rt:138:1
 same-length-6 : tie.Need-same-length-6
 same-length-6 c = search needs
 
--- src/tell.rt:138:1
+-- src/lib.rt:138:1
 returns-2 : tie.Need-returns-2
 returns-2 c = tells-got _ _ _ (held (c .before .before .before .before .before .before) .is) (c .before .before .tell-admitted .ensures)
 

@@ -1,13 +1,13 @@
--- `lines::put_ends` meets its contract, word by word.
+-- `endings::put_ends` meets its contract, word by word.
 use Rattle.text.proofs.Puts.{puts-then}
 use native.Mathlib.Omega.{arith}
 use borrow.Author.Needs.{needs}
-use Rattle.lines.proofs.put_ends.Statement.{statement}
-use Rattle.lines.proofs.put_ends.Tie as tie
-use Rattle.lines.proofs.put_ends.Reads as reads
-use Rattle.lines.proofs.put_ends.Lts as lts
+use Rattle.endings.proofs.put_ends.Statement.{statement}
+use Rattle.endings.proofs.put_ends.Tie as tie
+use Rattle.endings.proofs.put_ends.Reads as reads
+use Rattle.endings.proofs.put_ends.Lts as lts
 use Rattle.lines.proofs.put_fraction.Reads as put-fraction-reads
-use Rattle.lines.proofs.put_highest.Reads as put-highest-reads
+use Rattle.endings.proofs.put_highest.Reads as put-highest-reads
 use Rattle.text.proofs.put_byte.Reads as put-byte-reads
 use Rattle.text.proofs.put_word.Reads as put-word-reads
 

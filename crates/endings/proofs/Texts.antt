@@ -1,16 +1,14 @@
 -- Texts by the cases of the highest cycle time, and of several pieces.
 use mathlib.Core.Path.{_≡_, sym, subst}
-use mathlib.Core.List.{List, [], _∷_, _++_, map}
-use Prim.Native.Nat.{ℕ, _+_, _-_, _≤_}
-use lib.ListN.{getD, length, take, drop}
-use Rattle.text.specs.Text.{decimal, Puts}
+use mathlib.Core.List.{List, [], _++_}
+use Prim.Native.Nat.{ℕ}
+use Rattle.text.specs.Text.{Puts}
 use Rattle.text.proofs.Puts.{puts-then}
 use Rattle.ends.specs.declared.High.{High}
 use Rattle.ends.specs.declared.High.the-variants as high
 use Rattle.ends.specs.Answers.{highest}
-use Rattle.lines.specs.Lines.{low-word, high-word, open-word, following, fraction, highSpelled, numbersLine}
-use Rattle.lines.specs.Held.{circuitText, highText, endsText, foundText}
-use Rattle.lines.proofs.Turns.{times-line}
+use Rattle.lines.specs.Lines.{low-word, high-word, open-word, fraction, highSpelled}
+use Rattle.lines.specs.Buffers.{circuitText, highText, endsText, foundText}
 
 module _ {o out : List ℕ} {at next : ℕ} (h : High) where
   pub open-puts : h ≡ high.Open → Puts o at open-word next out → Puts o at (highSpelled (highest h)) next out
@@ -31,9 +29,3 @@ pub found-puts : {o a b out : List ℕ} {i j k : ℕ} (top bottom : ℕ) (h : Hi
     → Puts o 0 (foundText top bottom (highest h) first count₁ second count₂) k out
 found-puts top bottom h first count₁ second count₂ x y z =
     puts-then {a = endsText top bottom (highest h) ++ circuitText low-word first count₁} (puts-then {a = endsText top bottom (highest h)} x y) z
-
--- a line of times: its first, and then the others
-pub times-puts : {o mid out : List ℕ} {at next end : ℕ} (plan : List ℕ) (a n : ℕ) → 1 ≤ n → a + n ≤ length plan → Puts o at (decimal (getD plan a 0)) next mid
-    → Puts mid next (following (map decimal (take (n - 1) (drop (a + 1) plan)))) end out → Puts o at (numbersLine (take n (drop a plan))) end out
-times-puts {o} {mid} {out} {at} {next} {end} plan a n some long x y =
-    subst (λ (t : List ℕ). Puts o at t end out) (times-line o at plan a n some long) (puts-then {a = decimal (getD plan a 0)} x y)

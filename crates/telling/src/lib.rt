@@ -1,10 +1,11 @@
 // From a file's bytes to the text of its report: each answer is asked for in room of the work's own, and handed to its lines.
-// This file knows which call answers what; it knows no spelling.
+// This crate knows which call answers what; it knows no spelling, and not how much of a file is judged.
+// It renders document 01's "The report".
 use ask::Asked;
+use endings::put_found;
+use endings::put_none;
 use ends::Ended;
 use ends::High;
-use lines::put_found;
-use lines::put_none;
 use lines::put_plan;
 use lines::put_refused;
 use sheet::Read;
@@ -15,8 +16,8 @@ ghost use lib.ListN.{length};
 ghost use Rattle.tables.specs.Sheets.{sheet, refusal};
 ghost use Rattle.sheet.specs.File.{sheetIn};
 ghost use Rattle.ends.specs.Answers.{highest};
-ghost use Rattle.report.specs.Report.{TellsEnds, TellsNone, Tells};
-ghost use Rattle.report.specs.Told.{Stands, Low, PlanStands, Found};
+ghost use Rattle.telling.specs.Tells.{TellsEnds, TellsNone, Tells};
+ghost use Rattle.telling.specs.Steps.{Stands, Low, PlanStands, Found};
 
 // Asks for the plan at low, which works, and puts its lines.
 fn tell_plan(

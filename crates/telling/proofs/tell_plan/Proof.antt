@@ -1,26 +1,26 @@
--- `report::tell::tell_plan` meets its contract: at low Ask accepts, and the other arms are never taken.
-use Rattle.report.proofs.Telling.{asked-plan, asked-refuted, asked-refused}
+-- `telling::tell_plan` meets its contract: at low Ask accepts, and the other arms are never taken.
+use Rattle.telling.proofs.Telling.{asked-plan, asked-refuted, asked-refused}
 use Rattle.windows.proofs.Limits.{nodes-few}
 use Rattle.tables.proofs.Laws.{accepted}
 use native.Mathlib.Omega.{arith}
 use mathlib.Core.Path.{_∙_}
 use borrow.Author.Needs.{needs}
-use Rattle.report.proofs.tell.tell_plan.Statement.{statement}
-use Rattle.report.proofs.tell.tell_plan.Tie as tie
-use Rattle.report.proofs.tell.tell_plan.Reads as reads
-use Rattle.report.proofs.tell.tell_plan.Lts as lts
+use Rattle.telling.proofs.tell_plan.Statement.{statement}
+use Rattle.telling.proofs.tell_plan.Tie as tie
+use Rattle.telling.proofs.tell_plan.Reads as reads
+use Rattle.telling.proofs.tell_plan.Lts as lts
 use Rattle.ask.proofs.ask.Reads as ask-reads
 use Rattle.lines.proofs.put_plan.Reads as put-plan-reads
 
--- src/tell.rt:35:11
+-- src/lib.rt:35:11
 ask-requires : tie.Need-ask-requires
 ask-requires c κs = search needs
 
--- src/tell.rt:36:27
+-- src/lib.rt:36:27
 enum-known-rounds : tie.Need-enum-known-rounds
 enum-known-rounds c = search needs
 
--- src/tell.rt:36:39
+-- src/lib.rt:36:39
 put-plan-requires : tie.Need-put-plan-requires
 put-plan-requires c κs =
     let s = c .before .before .before .before .before .before .before .before .before .before .before .before .before .before .before .before in
@@ -28,54 +28,54 @@ put-plan-requires c κs =
     let z = ok .size in
     (omega (arith, s .pre .3), z .some-events, z .few-events, z .few-positions, omega (arith, nodes-few _ ok, c .before .before .before .before .before .before .before .before .before .ask .kept .1 .1 .1 .1 .1 .1 .1 .0, s .pre .1))
 
--- src/tell.rt:37:39
+-- src/lib.rt:37:39
 enum-told : tie.Need-enum-told
 enum-told c = search needs
 
--- src/tell.rt:38:41
+-- src/lib.rt:38:41
 enum-told-2 : tie.Need-enum-told-2
 enum-told-2 c = search needs
 
--- src/tell.rt:19:1
+-- src/lib.rt:19:1
 same-length : tie.Need-same-length
 same-length c = search needs
 
--- src/tell.rt:19:1
+-- src/lib.rt:19:1
 same-length-2 : tie.Need-same-length-2
 same-length-2 c = search needs
 
--- src/tell.rt:19:1
+-- src/lib.rt:19:1
 same-length-3 : tie.Need-same-length-3
 same-length-3 c = search needs
 
--- src/tell.rt:19:1
+-- src/lib.rt:19:1
 returns : tie.Need-returns
 returns c =
     let s = c .before .before .before .before .before .before .before .before .before .before .before .before .before .before .before .before .before .before .before in
     let a = c .before .before .before .before .before .before .before .before .before .before .before .before .ask in
     asked-plan _ _ _ (s .pre .0) _ _ (s .pre .1) (s .pre .2) (a .result) _ _ (a .ensures) _ (c .before .before .before .before .before .before .rounds .given .1) (a .kept .1 .1 .1 .1 .1 .1 .1 .0 ∙ s .pre .1) (c .before .before .put-plan .ensures)
 
--- src/tell.rt:19:1
+-- src/lib.rt:19:1
 same-length-4 : tie.Need-same-length-4
 same-length-4 c = search needs
 
--- src/tell.rt:19:1
+-- src/lib.rt:19:1
 same-length-5 : tie.Need-same-length-5
 same-length-5 c = search needs
 
--- src/tell.rt:19:1
+-- src/lib.rt:19:1
 returns-2 : tie.Need-returns-2
 returns-2 c = let s = c .before .before .before .before .before .before .before .before .before .before .before .before .before in let a = c .before .before .before .before .before .before .ask in absurd (asked-refuted _ _ _ (s .pre .0) _ _ (s .pre .1) (s .pre .2) (a .result) _ _ (a .ensures) _ (c .enum-told .given .1))
 
--- src/tell.rt:19:1
+-- src/lib.rt:19:1
 same-length-6 : tie.Need-same-length-6
 same-length-6 c = search needs
 
--- src/tell.rt:19:1
+-- src/lib.rt:19:1
 same-length-7 : tie.Need-same-length-7
 same-length-7 c = search needs
 
--- src/tell.rt:19:1
+-- src/lib.rt:19:1
 returns-3 : tie.Need-returns-3
 returns-3 c = let s = c .before .before .before .before .before .before .before .before .before .before .before .before .before in let a = c .before .before .before .before .before .before .ask in absurd (asked-refused _ _ _ (s .pre .0) _ _ (s .pre .1) (s .pre .2) (a .result) _ _ (a .ensures) _ (c .enum-told2 .given .1))
 
