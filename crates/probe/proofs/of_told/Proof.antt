@@ -1,7 +1,7 @@
 -- `probe::of_told` meets its contract: the length is the answer's value.
 use mathlib.Core.Path.{ap}
 use Rattle.probe.specs.Probes.{answerTold}
-use Rattle.probe.proofs.Answers.{one-given}
+use Rattle.answers.proofs.Answers.{one-given}
 use borrow.Author.Needs.{needs}
 use Rattle.probe.proofs.of_told.Statement.{statement}
 use Rattle.probe.proofs.of_told.Tie as tie

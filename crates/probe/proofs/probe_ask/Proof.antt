@@ -7,8 +7,8 @@ use Rattle.probe.proofs.probe_ask.Tie as tie
 use Rattle.probe.proofs.probe_ask.Reads as reads
 use Rattle.probe.proofs.probe_ask.Lts as lts
 use Rattle.ask.proofs.ask.Reads as ask-reads
-use Rattle.probe.proofs.give.Reads as give-reads
-use Rattle.probe.proofs.of_asked.Reads as of-asked-reads
+use Rattle.answers.proofs.give.Reads as give-reads
+use Rattle.answers.proofs.of_asked.Reads as of-asked-reads
 
 -- src/lib.rt:197:22
 ask-requires : tie.Need-ask-requires

@@ -7,8 +7,8 @@ use Rattle.probe.proofs.probe_ends.Tie as tie
 use Rattle.probe.proofs.probe_ends.Reads as reads
 use Rattle.probe.proofs.probe_ends.Lts as lts
 use Rattle.ends.proofs.ends.Reads as ends-reads
-use Rattle.probe.proofs.give.Reads as give-reads
-use Rattle.probe.proofs.of_ended.Reads as of-ended-reads
+use Rattle.answers.proofs.give.Reads as give-reads
+use Rattle.answers.proofs.of_ended.Reads as of-ended-reads
 
 -- src/lib.rt:216:22
 ends-requires : tie.Need-ends-requires

@@ -7,8 +7,8 @@ use Rattle.probe.proofs.probe_read.Statement.{statement}
 use Rattle.probe.proofs.probe_read.Tie as tie
 use Rattle.probe.proofs.probe_read.Reads as reads
 use Rattle.probe.proofs.probe_read.Lts as lts
-use Rattle.probe.proofs.give.Reads as give-reads
-use Rattle.probe.proofs.of_read.Reads as of-read-reads
+use Rattle.answers.proofs.give.Reads as give-reads
+use Rattle.answers.proofs.of_read.Reads as of-read-reads
 use Rattle.sheet.proofs.read_sheet.Reads as read-sheet-reads
 
 -- src/lib.rt:95:21

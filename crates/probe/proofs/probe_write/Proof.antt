@@ -7,8 +7,8 @@ use Rattle.probe.proofs.probe_write.Statement.{statement}
 use Rattle.probe.proofs.probe_write.Tie as tie
 use Rattle.probe.proofs.probe_write.Reads as reads
 use Rattle.probe.proofs.probe_write.Lts as lts
-use Rattle.probe.proofs.give.Reads as give-reads
-use Rattle.probe.proofs.of_written.Reads as of-written-reads
+use Rattle.answers.proofs.give.Reads as give-reads
+use Rattle.answers.proofs.of_written.Reads as of-written-reads
 use Rattle.sheet.proofs.write_sheet.Reads as write-sheet-reads
 
 -- src/lib.rt:112:24

@@ -12,8 +12,8 @@ use Rattle.ends.specs.declared.High.{High}
 use Rattle.ends.specs.declared.High.the-variants as high
 use Rattle.ends.specs.declared.Ended.{Ended}
 use Rattle.ends.specs.declared.Ended.the-variants as ended
-use Rattle.probe.specs.Probes.{Given, given, answerAsked, answerFound, answerEnded}
-use Rattle.probe.specs.declared.Answered.{Answered}
+use Rattle.answers.specs.Answers.{Given, given, answerAsked, answerFound, answerEnded}
+use Rattle.answers.specs.declared.Answered.{Answered}
 
 abbrev three : ℕ → ℕ → ℕ → Answered
 three a b c = record { number = 0; count = 3; values = a ∷ b ∷ c ∷ 0 ∷ 0 ∷ 0 ∷ 0 ∷ 0 ∷ [] }

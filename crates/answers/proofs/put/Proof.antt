@@ -1,11 +1,11 @@
--- `probe::put` meets its contract: past the end of the list `set` does nothing.
+-- `answers::put` meets its contract: past the end of the list `set` does nothing.
 use mathlib.Core.Path.{sym}
 use lib.Seq.{set-out}
 use borrow.Author.Needs.{needs}
-use Rattle.probe.proofs.put.Statement.{statement}
-use Rattle.probe.proofs.put.Tie as tie
-use Rattle.probe.proofs.put.Reads as reads
-use Rattle.probe.proofs.put.Lts as lts
+use Rattle.answers.proofs.put.Statement.{statement}
+use Rattle.answers.proofs.put.Tie as tie
+use Rattle.answers.proofs.put.Reads as reads
+use Rattle.answers.proofs.put.Lts as lts
 
 -- src/lib.rt:15:9
 mul-values : tie.Need-mul-values

@@ -1,14 +1,14 @@
--- `probe::of_written` meets its contract: the length is the answer's value.
+-- `answers::of_written` meets its contract: the length is the answer's value.
 use mathlib.Core.Path.{ap}
 use Rattle.sheet.specs.Answers.{answerWritten}
-use Rattle.probe.proofs.Answers.{one-given}
+use Rattle.answers.proofs.Answers.{one-given}
 use borrow.Author.Needs.{needs}
-use Rattle.probe.proofs.of_written.Statement.{statement}
-use Rattle.probe.proofs.of_written.Tie as tie
-use Rattle.probe.proofs.of_written.Reads as reads
-use Rattle.probe.proofs.of_written.Lts as lts
-use Rattle.probe.proofs.answer.Reads as answer-reads
-use Rattle.probe.proofs.wide.Reads as wide-reads
+use Rattle.answers.proofs.of_written.Statement.{statement}
+use Rattle.answers.proofs.of_written.Tie as tie
+use Rattle.answers.proofs.of_written.Reads as reads
+use Rattle.answers.proofs.of_written.Lts as lts
+use Rattle.answers.proofs.answer.Reads as answer-reads
+use Rattle.answers.proofs.wide.Reads as wide-reads
 
 -- src/lib.rt:62:25
 enum-known-written : tie.Need-enum-known-written

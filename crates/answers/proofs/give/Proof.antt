@@ -1,4 +1,4 @@
--- `probe::give` meets its contract. The invariant: the first k values are stored; the measure is what is left.
+-- `answers::give` meets its contract. The invariant: the first k values are stored; the measure is what is left.
 use mathlib.Core.Path.{_≡_, refl}
 use Prim.Native.Nat.{ℕ, _-_, _≤_}
 use native.Mathlib.Omega.{arith}
@@ -6,9 +6,9 @@ use native.Mathlib.Nat.{le-antisymm}
 use lib.ListN.{take}
 use lib.Seq.{sets}
 use borrow.Author.Needs.{needs}
-use Rattle.probe.proofs.Lists.{stores-more, stores-all, stores-length}
-use Rattle.probe.proofs.give.Statement.{statement}
-use Rattle.probe.proofs.give.Tie as tie
+use Rattle.answers.proofs.Lists.{stores-more, stores-all, stores-length}
+use Rattle.answers.proofs.give.Statement.{statement}
+use Rattle.answers.proofs.give.Tie as tie
 
 abbrev Inv-loop : tie.InvT-loop
 Inv-loop values₀ a list count k₀ values k = (k ≤ count) × (values ≡ sets values₀ 0 (take k list))

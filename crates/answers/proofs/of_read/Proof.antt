@@ -1,12 +1,12 @@
--- `probe::of_read` meets its contract: n, m and V are the answer's values.
-use Rattle.probe.proofs.Answers.{read-given}
+-- `answers::of_read` meets its contract: n, m and V are the answer's values.
+use Rattle.answers.proofs.Answers.{read-given}
 use borrow.Author.Needs.{needs}
-use Rattle.probe.proofs.of_read.Statement.{statement}
-use Rattle.probe.proofs.of_read.Tie as tie
-use Rattle.probe.proofs.of_read.Reads as reads
-use Rattle.probe.proofs.of_read.Lts as lts
-use Rattle.probe.proofs.answer.Reads as answer-reads
-use Rattle.probe.proofs.wide.Reads as wide-reads
+use Rattle.answers.proofs.of_read.Statement.{statement}
+use Rattle.answers.proofs.of_read.Tie as tie
+use Rattle.answers.proofs.of_read.Reads as reads
+use Rattle.answers.proofs.of_read.Lts as lts
+use Rattle.answers.proofs.answer.Reads as answer-reads
+use Rattle.answers.proofs.wide.Reads as wide-reads
 
 -- src/lib.rt:45:22
 enum-known-read : tie.Need-enum-known-read

@@ -1,11 +1,11 @@
--- `probe::of_found` meets its contract: seven values, with zeros for a high that is open.
-use Rattle.probe.proofs.Answers.{open-given, high-given}
+-- `answers::of_found` meets its contract: seven values, with zeros for a high that is open.
+use Rattle.answers.proofs.Answers.{open-given, high-given}
 use borrow.Author.Needs.{needs}
-use Rattle.probe.proofs.of_found.Statement.{statement}
-use Rattle.probe.proofs.of_found.Tie as tie
-use Rattle.probe.proofs.of_found.Reads as reads
-use Rattle.probe.proofs.of_found.Lts as lts
-use Rattle.probe.proofs.wide.Reads as wide-reads
+use Rattle.answers.proofs.of_found.Statement.{statement}
+use Rattle.answers.proofs.of_found.Tie as tie
+use Rattle.answers.proofs.of_found.Reads as reads
+use Rattle.answers.proofs.of_found.Lts as lts
+use Rattle.answers.proofs.wide.Reads as wide-reads
 
 -- src/lib.rt:107:44
 enum-told : tie.Need-enum-told

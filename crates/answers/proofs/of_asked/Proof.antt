@@ -1,11 +1,11 @@
--- `probe::of_asked` meets its contract: the rounds, or the arc count, are the answer's value.
-use Rattle.probe.proofs.Answers.{accepted-given, refuted-given}
+-- `answers::of_asked` meets its contract: the rounds, or the arc count, are the answer's value.
+use Rattle.answers.proofs.Answers.{accepted-given, refuted-given}
 use borrow.Author.Needs.{needs}
-use Rattle.probe.proofs.of_asked.Statement.{statement}
-use Rattle.probe.proofs.of_asked.Tie as tie
-use Rattle.probe.proofs.of_asked.Reads as reads
-use Rattle.probe.proofs.of_asked.Lts as lts
-use Rattle.probe.proofs.answer.Reads as answer-reads
+use Rattle.answers.proofs.of_asked.Statement.{statement}
+use Rattle.answers.proofs.of_asked.Tie as tie
+use Rattle.answers.proofs.of_asked.Reads as reads
+use Rattle.answers.proofs.of_asked.Lts as lts
+use Rattle.answers.proofs.answer.Reads as answer-reads
 
 -- src/lib.rt:82:27
 enum-known-asked : tie.Need-enum-known-asked

@@ -1,0 +1,153 @@
+// Answers in numbers: the number of a call's answer, and the values that are returned with it, in a list.
+// This crate knows the answers of the reader, the writer, Ask and Ends; tests and benchmarks take these from C, and no part of the product does.
+use ask::Asked;
+use ends::Ended;
+use ends::High;
+use sheet::Read;
+use sheet::Written;
+ghost use mathlib.Core.Path.{_≡_};
+ghost use Prim.Native.Nat.{_≤_};
+ghost use lib.ListN.{set, length};
+ghost use lib.Seq.{sets};
+ghost use Rattle.sheet.specs.Answers.{answerRead, answerWritten};
+ghost use Rattle.answers.specs.Answers.{Given, given, answerAsked, answerFound, answerEnded};
+
+// An answer in numbers: its number, and how many values of the list belong to it.
+pub struct Answered {
+    pub number: u32,
+    pub count: usize,
+    pub values: [u64; 8],
+}
+
+// Puts a number at a place of a list, if it reaches that far.
+fn put(values: &mut [u64], at: usize, value: u64)
+    ensures { λ _. ⌜ now (values .exit) ≡ set (now (values .entry)) at value ⌝ }
+{
+    if at < values.len() {
+        values[at] = value;
+    }
+}
+
+pub fn wide(value: usize) -> u64
+    ensures { λ r. ⌜ r ≡ value ⌝ }
+{
+    value as u64
+}
+
+pub fn answer(number: u8) -> u32
+    ensures { λ r. ⌜ r ≡ number ⌝ }
+{
+    number as u32
+}
+
+pub fn of_read(read: Read) -> Answered
+    ensures { λ r. ⌜ Given r (answerRead read) ⌝ }
+{
+    match read {
+        Read::Done { n, m, positions } => Answered {
+            number: 0,
+            count: 3,
+            values: [wide(n), wide(m), wide(positions), 0, 0, 0, 0, 0],
+        },
+        Read::Refused { number } => Answered {
+            number: answer(number),
+            count: 0,
+            values: [0; 8],
+        },
+    }
+}
+
+pub fn of_written(written: Written) -> Answered
+    ensures { λ r. ⌜ Given r (answerWritten written) ⌝ }
+{
+    match written {
+        Written::Done { length } => Answered {
+            number: 0,
+            count: 1,
+            values: [wide(length), 0, 0, 0, 0, 0, 0, 0],
+        },
+        Written::Refused { number } => Answered {
+            number: answer(number),
+            count: 0,
+            values: [0; 8],
+        },
+    }
+}
+
+pub fn of_asked(asked: Asked) -> Answered
+    ensures { λ r. ⌜ Given r (answerAsked asked) ⌝ }
+{
+    match asked {
+        Asked::Accepted { rounds } => Answered {
+            number: 0,
+            count: 1,
+            values: [rounds, 0, 0, 0, 0, 0, 0, 0],
+        },
+        Asked::Refuted { arcs } => Answered {
+            number: 100,
+            count: 1,
+            values: [arcs, 0, 0, 0, 0, 0, 0, 0],
+        },
+        Asked::Refused { number } => Answered {
+            number: answer(number),
+            count: 0,
+            values: [0; 8],
+        },
+    }
+}
+
+fn of_found(top: u64, bottom: u64, high: High, first: usize, second: usize) -> Answered
+    ensures { λ r. ⌜ Given r (answerFound top bottom high first second) ⌝ }
+{
+    match high {
+        High::Open => Answered {
+            number: 0,
+            count: 7,
+            values: [top, bottom, 0, 0, 0, wide(first), wide(second), 0],
+        },
+        High::UpTo { top: c, bottom: d } => Answered {
+            number: 0,
+            count: 7,
+            values: [top, bottom, 1, c, d, wide(first), wide(second), 0],
+        },
+    }
+}
+
+pub fn of_ended(ended: Ended) -> Answered
+    ensures { λ r. ⌜ Given r (answerEnded ended) ⌝ }
+{
+    match ended {
+        Ended::Found {
+            top,
+            bottom,
+            high,
+            first,
+            second,
+        } => of_found(top, bottom, high, first, second),
+        Ended::None { first, second } => Answered {
+            number: 101,
+            count: 2,
+            values: [wide(first), wide(second), 0, 0, 0, 0, 0, 0],
+        },
+        Ended::Refused { number } => Answered {
+            number: answer(number),
+            count: 0,
+            values: [0; 8],
+        },
+    }
+}
+
+// Hands an answer over: the values into the list, as far as it reaches, and the number.
+pub fn give(values: &mut [u64], a: Answered) -> u32
+    requires { ⌜ (a .count ≤ 8) × (length (a .values) ≡ 8) ⌝ }
+    ensures { λ r. ⌜ (r ≡ a .number) × (now (values .exit) ≡ sets (now (values .entry)) 0 (given a)) ⌝ }
+{
+    let list = a.values;
+    let count = a.count;
+    let mut k: usize = 0;
+    while k < count {
+        put(values, k, list[k]);
+        k += 1;
+    }
+    a.number
+}
