@@ -3,15 +3,16 @@
 use ask::Asked;
 use ends::Ended;
 use ends::High;
+use reader::Read;
 use report::Told;
-use sheet::Read;
-use sheet::Written;
+use writer::Written;
 ghost use mathlib.Core.Path.{_≡_};
 ghost use Prim.Native.Nat.{_≤_};
 ghost use lib.ListN.{set, length};
 ghost use lib.Seq.{sets};
 ghost use Rattle.tables.specs.Sheets.{sheet};
-ghost use Rattle.sheet.specs.Answers.{answerRead, answerWritten};
+ghost use Rattle.reader.specs.Answers.{answerRead};
+ghost use Rattle.writer.specs.Answers.{answerWritten};
 ghost use Rattle.probe.specs.Probes.{Given, given, answerAsked, answerFound, answerEnded, ReadProbed, WriteProbed, AskProbed, EndsProbed, answerTold, ReportProbed};
 
 // An answer in numbers: its number, and how many values of the list belong to it.
@@ -181,7 +182,7 @@ pub extern "C" fn probe_read(
 ) -> u32
     ensures { λ r. ⌜ ReadProbed (now (file .entry)) (now (tables .entry)) (now (schedule .entry)) (now (values .entry)) r (now (tables .exit)) (now (schedule .exit)) (now (values .exit)) ⌝ }
 {
-    let a = of_read(sheet::read_sheet(file, tables, schedule));
+    let a = of_read(reader::read_sheet(file, tables, schedule));
     give(values, a)
 }
 
@@ -198,7 +199,7 @@ pub extern "C" fn probe_write(
 ) -> u32
     ensures { λ r. ⌜ WriteProbed (sheet n m positions (now (tables .entry)) (now (schedule .entry))) (now (out .entry)) (now (values .entry)) r (now (out .exit)) (now (values .exit)) ⌝ }
 {
-    let a = of_written(sheet::write_sheet(n, m, positions, tables, schedule, out));
+    let a = of_written(writer::write_sheet(n, m, positions, tables, schedule, out));
     give(values, a)
 }
 
