@@ -31,7 +31,7 @@ format-test : (x y : Number) → tested (between 1 1) 3 x ≡ y → tested (λ f
 format-test x y e = sym (tested-same (between 1 1) (λ format. eqb format 1) just-one 3 x) ∙ e
 
 format-is : (c : tie.After-known-told) → tested (λ format. eqb format 1) 3 (numberAt (S c .args .file .now) 0) ≡ Value (c .before .first .given .0 .0) (c .before .first .given .0 .1 .0)
-format-is c = format-test _ _ (sym (c .before .before .before .number-within .ensures) ∙ c .before .first .given .1)
+format-is c = format-test (numberAt (S c .args .file .now) 0) (Value (c .before .first .given .0 .0) (c .before .first .given .0 .1 .0)) (sym (c .before .before .before .number-within .ensures) ∙ c .before .first .given .1)
 
 events-is : (c : tie.After-known-told2) → tested (within 12) 4 (numberAt (S (K1 c) .args .file .now) (K1 c .before .first .given .0 .1 .0)) ≡ Value (c .before .second .given .0 .0) (c .before .second .given .0 .1 .0)
 events-is c = sym (c .before .before .before .number-within2 .ensures) ∙ c .before .second .given .1
