@@ -3,13 +3,14 @@
 use ask::Asked;
 use ends::Ended;
 use ends::High;
-use sheet::Read;
-use sheet::Written;
+use reader::Read;
+use writer::Written;
 ghost use mathlib.Core.Path.{_≡_};
 ghost use Prim.Native.Nat.{_≤_};
 ghost use lib.ListN.{set, length};
 ghost use lib.Seq.{sets};
-ghost use Rattle.sheet.specs.Answers.{answerRead, answerWritten};
+ghost use Rattle.reader.specs.Answers.{answerRead};
+ghost use Rattle.writer.specs.Answers.{answerWritten};
 ghost use Rattle.answers.specs.Answers.{Given, given, answerAsked, answerFound, answerEnded};
 
 // An answer in numbers: its number, and how many values of the list belong to it.

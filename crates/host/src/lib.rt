@@ -2,7 +2,7 @@
 // This crate knows which call follows which; the calls themselves are below it.
 // It renders document 01's "The hoist controller's host is a C program".
 use ask::Asked;
-use sheet::Read;
+use reader::Read;
 ghost use mathlib.Core.Path.{_≡_};
 ghost use lib.ListN.{length};
 ghost use Rattle.tables.specs.Sheets.{sheet, refusal};
@@ -72,7 +72,7 @@ fn judge(file: &[u8], p: u64, q: u64, tables: &mut [i32], schedule: &mut [u8]) -
     requires { ⌜ (length (now tables) ≡ 4608) × (length (now schedule) ≡ 16) ⌝ }
     ensures { λ r. ⌜ Verdict (now (file .entry)) p q r ⌝ }
 {
-    let read = sheet::read_sheet(file, tables, schedule);
+    let read = reader::read_sheet(file, tables, schedule);
     match read {
         Read::Refused { number } => number as u32,
         Read::Done { n, m, positions } => {

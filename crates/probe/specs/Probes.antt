@@ -16,7 +16,9 @@ use Rattle.report.specs.Told as told-answers
 use Rattle.report.specs.declared.Told.{Told}
 use Rattle.report.specs.declared.Told.the-variants as told
 use Rattle.sheet.specs.File.{sheetIn}
-use Rattle.sheet.specs.Answers.{Answer, reading, readOf, writing, writeOf}
+use Rattle.sheet.specs.Answers.{Answer}
+use Rattle.reader.specs.Answers.{reading, readOf}
+use Rattle.writer.specs.Answers.{writing, writeOf}
 use Rattle.answers.specs.Answers.{answerAsked, answerEnded}
 
 -- the reader's outcome, for one answer

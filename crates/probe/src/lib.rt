@@ -35,7 +35,7 @@ pub extern "C" fn probe_read(
 ) -> u32
     ensures { λ r. ⌜ ReadProbed (now (file .entry)) (now (tables .entry)) (now (schedule .entry)) (now (values .entry)) r (now (tables .exit)) (now (schedule .exit)) (now (values .exit)) ⌝ }
 {
-    let a = answers::of_read(sheet::read_sheet(file, tables, schedule));
+    let a = answers::of_read(reader::read_sheet(file, tables, schedule));
     give(values, a)
 }
 
@@ -52,7 +52,7 @@ pub extern "C" fn probe_write(
 ) -> u32
     ensures { λ r. ⌜ WriteProbed (sheet n m positions (now (tables .entry)) (now (schedule .entry))) (now (out .entry)) (now (values .entry)) r (now (out .exit)) (now (values .exit)) ⌝ }
 {
-    let a = answers::of_written(sheet::write_sheet(n, m, positions, tables, schedule, out));
+    let a = answers::of_written(writer::write_sheet(n, m, positions, tables, schedule, out));
     give(values, a)
 }
 

@@ -12,8 +12,8 @@ use Rattle.tables.specs.Sheets.{Sheet, sheet, noWindow, inLimit, absent, or, ad
 use Rattle.tables.proofs.Laws.{both, Sizes, sized-yes, refused-not, yes}
 use Rattle.sheet.specs.File.{got, Window, modeAt, modesAt, put, laid, tablesOf, scheduleAt, sheetIn}
 use Rattle.sheet.proofs.Numbers.{after-got, tested-value}
-use Rattle.sheet.proofs.Walking.{then-got}
-use Rattle.sheet.proofs.Modes.{Good, good}
+use Rattle.sheet.proofs.Following.{then-got}
+use Rattle.sheet.proofs.Windows.{Good, good}
 use Rattle.sheet.proofs.Sheets.{sheeted}
 
 -- ---- a test of every element

@@ -15,11 +15,10 @@ use Rattle.tables.specs.Sheets.{Sheet, sheet, admitted}
 use Rattle.sheet.specs.File.{got, Window, inMode, windowAt, windowsAt, modeAt, modesAt, laid, tablesOf, scheduleAt, sheetIn}
 use Rattle.sheet.specs.Written.{inGroups, records, modeNumbers, modesNumbers, sheetNumbers, written}
 use Rattle.sheet.proofs.Numbers.{after-got, tested-value}
-use Rattle.sheet.proofs.Walking.{then-got}
+use Rattle.sheet.proofs.Following.{then-got}
 use Rattle.sheet.proofs.Places.{kind-of, to-of, from-of}
-use Rattle.sheet.proofs.Windows.{recorded}
-use Rattle.sheet.proofs.Modes.{good, length-laid}
-use Rattle.sheet.proofs.Runs.{inGroups-append}
+use Rattle.sheet.proofs.Windows.{recorded, good, length-laid}
+use Rattle.sheet.proofs.Groups.{inGroups-append}
 use Rattle.sheet.proofs.Parts.{windows-laid}
 use Rattle.sheet.proofs.Sheets.{sheeted}
 

@@ -20,7 +20,7 @@ use Rattle.tables.specs.Sheets.{inLimit, within}
 use Rattle.tables.proofs.Laws.{within-is}
 use Rattle.sheet.specs.File.{Part, got, refused, tested, after, andThen, Window, valueAt, windowAt, windowsAt, modeAt, modesAt, ended, tablesAt, scheduleAt, Counts, countsAt, sheetAfter, sheetIn}
 use Rattle.sheet.proofs.Numbers.{after-got, tested-value}
-use Rattle.sheet.proofs.Walking.{then-got}
+use Rattle.sheet.proofs.Following.{then-got}
 use Rattle.sheet.proofs.Windows.{recorded, few}
 use Rattle.sheet.proofs.Sheets.{counted}
 use Rattle.sheet.proofs.There.{limit-code}

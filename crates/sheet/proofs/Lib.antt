@@ -1,25 +1,20 @@
--- laws of the reader's steps
+-- laws of the definitions
 pub mod Numbers
-pub mod Counting
-pub mod Walking
+pub mod Following
+pub mod Groups
 pub mod Places
 pub mod Windows
-pub mod Sets
-pub mod Modes
-pub mod Schedules
 pub mod Sheets
--- laws of the writer's steps
-pub mod Runs
-pub mod Rows
-pub mod Outcomes
+pub mod Parts
+-- laws of lists and counts, for the steps of the crates above
+pub mod Counting
+pub mod Sets
 -- theorems over the definitions
 pub mod Orders
-pub mod Parts
 pub mod Back
 pub mod Admitted
 pub mod There
-pub mod Trips
+pub mod Surplus
 pub mod Longest
 pub mod Front
 pub mod Samples
-pub mod Held

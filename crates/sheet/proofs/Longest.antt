@@ -18,11 +18,9 @@ use Rattle.tables.proofs.Laws.{both, accepted, passes}
 use Rattle.sheet.specs.File.{Window}
 use Rattle.sheet.specs.Written.{inGroups, cell, windowsOf, records, modeNumbers, modesNumbers, sheetNumbers, written}
 use Rattle.sheet.proofs.Places.{fit-of}
-use Rattle.sheet.proofs.Windows.{few}
-use Rattle.sheet.proofs.Modes.{Good}
-use Rattle.sheet.proofs.Rows.{windows-few}
-use Rattle.sheet.proofs.Runs.{inGroups-append}
-use Rattle.sheet.proofs.Parts.{good-windows}
+use Rattle.sheet.proofs.Windows.{few, Good}
+use Rattle.sheet.proofs.Parts.{windows-few, good-windows}
+use Rattle.sheet.proofs.Groups.{inGroups-append}
 use Rattle.sheet.proofs.Sheets.{places-are}
 use Rattle.sheet.proofs.There.{limit-code, all-both, first-long, others-long, parted}
 

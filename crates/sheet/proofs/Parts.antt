@@ -9,12 +9,34 @@ use borrow.Author.Tests.{ltb-true, ne-eqb}
 use lib.IntN.{ℤ, pos, negsuc}
 use lib.ListN.{length, replicate, length-append}
 use lib.Seq.{set-at}
+use Rattle.numbers.specs.Groups.{pick}
 use Rattle.tables.specs.Sheets.{noWindow, inLimit, absent, or, admits, all}
 use Rattle.tables.proofs.Laws.{absent-is, both}
 use Rattle.sheet.specs.File.{Window, window, put, laid}
 use Rattle.sheet.specs.Written.{cell, windowsOf}
-use Rattle.sheet.proofs.Modes.{Good}
-use Rattle.sheet.proofs.Rows.{cell-absent, cell-present}
+use Rattle.sheet.proofs.Windows.{Good}
+
+-- ---- the window that a value says
+pub cell-absent : (k : ℕ) (v : ℤ) → absent v ≡ true → cell k v ≡ []
+unfolding cell
+cell-absent k v e = rw e
+
+pub cell-present : (k : ℕ) (v : ℤ) → absent v ≡ false → cell k v ≡ window k v ∷ []
+unfolding cell
+cell-present k v e = rw e
+
+pub cell-few : (k : ℕ) (v : ℤ) → length (cell k v) ≤ 1
+unfolding cell
+cell-few k v = go (absent v)
+  where
+    go : (b : Bool) → length (pick {A = List Window} b [] (window k v ∷ [])) ≤ 1
+    go true = omega arith
+    go false = omega arith
+
+pub windows-few : (k : ℕ) (part : List ℤ) → length (windowsOf k part) ≤ length part
+unfolding windowsOf
+windows-few k [] = omega arith
+windows-few k (v ∷ part) = omega (arith, length-append (cell k v) (windowsOf (k + 1) part), cell-few k v, windows-few (k + 1) part)
 
 -- a limit in its range is a window
 pub limit-present : (v : ℤ) → inLimit v ≡ true → absent v ≡ false

@@ -1,27 +1,22 @@
--- A sheet that was read: what its parts are, and what the buffers hold.
+-- A sheet that was read: what its parts are.
 use mathlib.Core.Path.{_≡_, refl, sym, ap, _∙_}
 use mathlib.Core.Bool.{Bool, true, false}
-use mathlib.Core.List.{List, [], _∷_, _++_}
-use Prim.Native.Nat.{ℕ, zero, suc, _+_, _*_, _≤_, _<_}
+use mathlib.Core.List.{List, [], _∷_}
+use Prim.Native.Nat.{ℕ, zero, suc, _*_, _≤_}
 use native.Mathlib.Omega.{arith}
 use native.Mathlib.Nat.{mul-assoc, mul-comm, suc-mul}
-use borrow.Author.Tests.{eqb-true, le-leb, lt-leb}
+use borrow.Author.Tests.{eqb-true}
 use lib.Dec.{eqb}
 use lib.IntN.{ℤ}
-use lib.ListN.{length, drop, length-append}
-use lib.Seq.{sets, sets-eq}
+use lib.ListN.{length, length-append}
 use Rattle.numbers.specs.Groups.{pick, numberAt}
 use Rattle.numbers.specs.declared.Number.the-variants.{Value}
 use Rattle.tables.specs.Sheets.{Sheet, sheet, places}
 use Rattle.tables.proofs.Laws.{within-is}
 use Rattle.sheet.specs.File.{Part, got, refused, Window, Counts, counts, countsAt, scheduleAt, modesAt, tablesOf, laid, ended, tablesAt, sheetAfter, sheetIn}
-use Rattle.sheet.specs.Answers.{Reads}
-use Rattle.sheet.specs.Steps.{Fills}
-use Rattle.sheet.specs.declared.Read.{Read}
-use Rattle.sheet.specs.declared.Read.the-variants as read
 use Rattle.sheet.proofs.Numbers.{after-got, tested-value}
-use Rattle.sheet.proofs.Walking.{then-got}
-use Rattle.sheet.proofs.Modes.{length-laid}
+use Rattle.sheet.proofs.Following.{then-got}
+use Rattle.sheet.proofs.Windows.{length-laid}
 
 -- ---- n, m and V
 pub record Counted (file : List ℕ) (at : ℕ) (c : Counts) (next : ℕ) : Type 0 where
@@ -154,65 +149,3 @@ sheeted file s next h =
       long-schedule = length-schedule file (c .thing .m) (c .thing .positions) (c .place) (v .thing) (v .place) (v .is);
       long-tables = ap length (d .is) ∙ length-modes file (c .thing .n) (c .thing .m) (v .place) (d .modes) next (d .are) ∙ places-are (c .thing .n) (c .thing .m);
     })
-
--- ---- a walk over the whole file
-pub record Filled (x : Part Sheet) (n m positions : ℕ) : Type 0 where
-  pub s : Sheet
-  pub next : ℕ
-  pub is : x ≡ got s next
-  pub n-is : s .n ≡ n
-  pub m-is : s .m ≡ m
-  pub positions-is : s .positions ≡ positions
-
-pub filled : (x : Part Sheet) (t₀ : List ℤ) (s₀ : List ℕ) (r : Read) (t : List ℤ) (v : List ℕ) (n m positions : ℕ) → r ≡ read.Done n m positions → Fills x t₀ s₀ r t v → Filled x n m positions
-unfolding Fills
-filled (got s next) t₀ s₀ r t v n m positions e h =
-    let q : read.Done (s .n) (s .m) (s .positions) ≡ read.Done n m positions = sym (h .0) ∙ e in
-    record { s = s; next = next; is = refl; n-is = cc; m-is = cc; positions-is = cc }
-filled (refused k) t₀ s₀ r t v n m positions e h = absurd (never (sym h ∙ e))
-  where
-    never : read.Refused k ≡ read.Done n m positions → ⊥
-    never e = let z : _≡_ {A = ℕ} 0 1 = cc in omega arith
-
-pub unfilled : (x : Part Sheet) (t₀ : List ℤ) (s₀ : List ℕ) (r : Read) (t : List ℤ) (v : List ℕ) (k : ℕ) → r ≡ read.Refused k → Fills x t₀ s₀ r t v → x ≡ refused k
-unfolding Fills
-unfilled (got s next) t₀ s₀ r t v k e h = absurd (never (sym (h .0) ∙ e))
-  where
-    never : read.Done (s .n) (s .m) (s .positions) ≡ read.Refused k → ⊥
-    never e = let z : _≡_ {A = ℕ} 0 1 = cc in omega arith
-unfilled (refused j) t₀ s₀ r t v k e h = let q : read.Refused j ≡ read.Refused k = sym h ∙ e in let z : j ≡ k = cc in ap refused z
-
-pub fills-refused : (x : Part Sheet) (t₀ : List ℤ) (s₀ : List ℕ) (t : List ℤ) (v : List ℕ) (k : ℕ) → x ≡ refused k → Fills x t₀ s₀ (read.Refused k) t v
-unfolding Fills
-fills-refused x t₀ s₀ t v k e = rw e
-
-pub fills-done : (x : Part Sheet) (t₀ : List ℤ) (s₀ : List ℕ) (t : List ℤ) (v : List ℕ) (s : Sheet) (next : ℕ) → x ≡ got s next
-    → t ≡ sets t₀ 0 (s .tables) → v ≡ sets s₀ 0 (s .schedule) → Fills x t₀ s₀ (read.Done (s .n) (s .m) (s .positions)) t v
-unfolding Fills
-fills-done x t₀ s₀ t v s next e p q = rw e (refl, p, q)
-
--- ---- the outcome
--- a list that is long enough, with another written over its front
-pub front : {A : Type 0} (l vs : List A) (k : ℕ) → length vs ≡ k → k ≤ length l → sets l 0 vs ≡ vs ++ drop k l
-front l vs k e h = sets-eq vs l 0 (omega arith) ∙ ap (λ (j : ℕ). vs ++ drop j l) (sum (length vs) k e)
-  where
-    sum : (a k : ℕ) → a ≡ k → 0 + a ≡ k
-    sum a k e = omega arith
-
-module _ (file : List ℕ) (t₀ : List ℤ) (s₀ : List ℕ) where
-  pub reads-refused : (r : Read) (k : ℕ) → r ≡ read.Refused k → sheetIn file ≡ refused k → Reads file t₀ s₀ r t₀ s₀
-  reads-refused r k e h = rw (e, h)
-
-  module _ (s : Sheet) (next : ℕ) (h : sheetIn file ≡ got s next) where
-    pub reads-short-tables : length t₀ < places (s .n) (s .m) → Reads file t₀ s₀ (read.Refused 9) t₀ s₀
-    reads-short-tables l = rw (h, lt-leb _ _ l)
-
-    pub reads-short-schedule : places (s .n) (s .m) ≤ length t₀ → length s₀ < s .positions → Reads file t₀ s₀ (read.Refused 9) t₀ s₀
-    reads-short-schedule g l = rw (h, le-leb _ _ g, lt-leb _ _ l)
-
-    pub reads-done : (r : Read) (t : List ℤ) (v : List ℕ) → places (s .n) (s .m) ≤ length t₀ → s .positions ≤ length s₀ → Fills (sheetIn file) t₀ s₀ r t v → Reads file t₀ s₀ r t v
-    unfolding Fills
-    reads-done r t v g l f =
-        let d = sheeted file s next h in
-        let q = rw h at f in
-        rw (h, le-leb _ _ g, le-leb _ _ l, q .0, q .1, q .2, front t₀ (s .tables) (places (s .n) (s .m)) (d .long-tables) g, front s₀ (s .schedule) (s .positions) (d .long-schedule) l)

@@ -21,12 +21,10 @@ use Rattle.tables.proofs.Laws.{both, accepted, passes, yes}
 use Rattle.sheet.specs.File.{Part, got, Window, rising, valueAt, windowAt, windowsAt, modeAt, modesAt, tablesOf, ended, tablesAt, scheduleAt, counts, countsAt, sheetAfter, sheetIn}
 use Rattle.sheet.specs.Written.{inGroups, windowsOf, records, modeNumbers, modesNumbers, sheetNumbers, written}
 use Rattle.sheet.proofs.Numbers.{after-value, tested-yes}
-use Rattle.sheet.proofs.Walking.{then-value}
+use Rattle.sheet.proofs.Following.{then-value}
 use Rattle.sheet.proofs.Places.{place-of, fit-of}
-use Rattle.sheet.proofs.Windows.{few}
-use Rattle.sheet.proofs.Modes.{Good}
-use Rattle.sheet.proofs.Rows.{windows-few}
-use Rattle.sheet.proofs.Parts.{laid-windows, good-windows}
+use Rattle.sheet.proofs.Windows.{few, Good}
+use Rattle.sheet.proofs.Parts.{windows-few, laid-windows, good-windows}
 use Rattle.sheet.proofs.Sheets.{places-are}
 
 -- from a place on the file is these numbers, to its end

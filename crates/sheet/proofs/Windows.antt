@@ -1,28 +1,22 @@
--- The records of a mode: what one is, and how they are read one after the other.
+-- The records of a mode: what one is, and what they are together.
 use mathlib.Core.Path.{_≡_, refl, sym, ap, _∙_}
 use mathlib.Core.Bool.{Bool, true, false}
-use mathlib.Core.List.{List, _∷_}
-use Prim.Native.Nat.{ℕ, _+_, _-_, _*_, _≤_, _<_}
+use mathlib.Core.List.{List, [], _∷_}
+use Prim.Native.Nat.{ℕ, zero, suc, _+_, _*_, _≤_, _<_}
 use native.Mathlib.Omega.{arith}
-use native.Mathlib.Numerals.{add-one}
 use native.Mathlib.Nat.{mul-le-mul}
 use borrow.Author.Tests.{leb-true}
 use lib.Dec.{leb}
 use lib.IntN.{ℤ}
-use lib.ListN.{set, replicate}
-use lib.Seq.{sets}
-use Rattle.sheet.proofs.Counting.{one, none}
+use lib.ListN.{length, set, replicate, length-set, length-replicate}
 use Rattle.numbers.specs.Groups.{pick, numberAt}
 use Rattle.numbers.specs.Signs.{decoded}
 use Rattle.numbers.specs.declared.Number.the-variants.{Value}
 use Rattle.tables.specs.Sheets.{inLimit, noWindow}
 use Rattle.tables.proofs.Laws.{within-is}
-use Rattle.sheet.specs.File.{Part, got, refused, andThen, Window, window, inMode, rising, valueAt, windowAt, windowsAt, put}
-use Rattle.sheet.specs.Steps.{Walks}
-use Rattle.sheet.specs.declared.Ending.{Ending}
-use Rattle.sheet.specs.declared.Ending.the-variants as ending
+use Rattle.sheet.specs.File.{Part, got, refused, Window, window, inMode, rising, valueAt, windowAt, windowsAt, put, laid}
 use Rattle.sheet.proofs.Numbers.{after-got, tested-value}
-use Rattle.sheet.proofs.Walking.{grow, then-value, then-refused, stopped}
+use Rattle.sheet.proofs.Following.{then-got}
 use Rattle.sheet.proofs.Places.{Fit, in-part}
 
 -- a record that was read: its four numbers, where each stands, and what they say
@@ -100,32 +94,31 @@ placed file n low at w next h =
 pub few : (n : ℕ) → n ≤ 12 → 4 * (n * n) ≤ 576
 few n h = omega (arith, mul-le-mul h h)
 
--- ---- the loop over the records: k of them are passed
-abbrev pub store : List ℤ → List Window → List ℤ
-store was windows = put windows was
+-- windows that strictly rise from `low` on, below `size`, each with a limit in its range
+unfoldable pub Good : ℕ → ℕ → List Window → Type 0
+Good size low [] = Unit
+Good size low (w ∷ rest) = (low ≤ w .place) × (w .place < size) × (inLimit (w .limit) ≡ true) × Good size (w .place + 1) rest
 
-unroll : (file : List ℕ) (n count k low p : ℕ) → k < count
-    → windowsAt file n (count - k) low p ≡ andThen (windowAt file n low p) (λ w a. andThen (windowsAt file n (count - (k + 1)) (w .place + 1) a) (λ rest b. got (w ∷ rest) b))
-unfolding windowsAt
-unroll file n count k low p h = ap (λ (m : ℕ). windowsAt file n m low p) (one count k h)
+pub good : (file : List ℕ) (n count low at : ℕ) (windows : List Window) (next : ℕ) → windowsAt file n count low at ≡ got windows next → Good (4 * (n * n)) low windows
+unfolding windowsAt Good
+good file n zero low at windows next h = let e : windows ≡ [] = cc in rw e tt
+good file n (suc count) low at windows next h =
+    let w = then-got _ _ _ _ h in
+    let r = then-got _ _ _ _ (w .rest) in
+    let e : windows ≡ w .thing ∷ r .thing = cc (r .rest) in
+    let d = recorded file n low at (w .thing) (w .place) (w .is) in
+    rw e (
+      rw (ap (λ (x : Window). x .place) (d .is)) (d .rises),
+      placed file n low at (w .thing) (w .place) (w .is),
+      rw (ap (λ (x : Window). x .limit) (d .is)) (d .limited),
+      good file n count (w .thing .place + 1) (w .place) (r .thing) (r .place) (r .is),
+    )
 
-module _ (file : List ℕ) (n count k low p : ℕ) (part : List ℤ) where
-  pub next : k < count → (w : Window) (a : ℕ) → windowAt file n low p ≡ got w a → (r : Ending) (now : List ℤ)
-      → Walks store (windowsAt file n (count - (k + 1)) (w .place + 1) a) (set part (w .place) (w .limit)) r now → Walks store (windowsAt file n (count - k) low p) part r now
-  unfolding put
-  next h w a e r now g = rw (unroll file n count k low p h ∙ then-value _ _ w a e) (grow store store w part (set part (w .place) (w .limit)) (λ xs. refl) _ r now g)
+pub length-put : (windows : List Window) (part : List ℤ) → length (put windows part) ≡ length part
+unfolding put
+length-put [] part = refl
+length-put (w ∷ rest) part = length-put rest (set part (w .place) (w .limit)) ∙ length-set part (w .place) (w .limit)
 
-  pub stop : k < count → (j : ℕ) → windowAt file n low p ≡ refused j → Walks store (windowsAt file n (count - k) low p) part (ending.Refused j) part
-  stop h j e = stopped store _ part part j (unroll file n count k low p h ∙ then-refused _ _ j e)
-
-  pub done : count ≤ k → Walks store (windowsAt file n (count - k) low p) part (ending.At p) part
-  unfolding Walks windowsAt put
-  done h = rw (none count k h) (refl, refl)
-
--- ---- the loop that clears a part: k places are passed
-module _ (part : List ℤ) (size k : ℕ) (whole : List ℤ) (e : sets part k (replicate (size - k) noWindow) ≡ whole) where
-  pub clear-next : k < size → sets (set part k noWindow) (k + 1) (replicate (size - (k + 1)) noWindow) ≡ whole
-  clear-next h = ap (λ (j : ℕ). sets (set part k noWindow) j (replicate (size - (k + 1)) noWindow)) (add-one k) ∙ sym (ap (λ (m : ℕ). sets part k (replicate m noWindow)) (one size k h)) ∙ e
-
-  pub clear-done : size ≤ k → part ≡ whole
-  clear-done h = sym (ap (λ (m : ℕ). sets part k (replicate m noWindow)) (none size k h)) ∙ e
+pub length-laid : (size : ℕ) (windows : List Window) → length (laid size windows) ≡ size
+unfolding laid
+length-laid size windows = length-put windows (replicate size noWindow) ∙ length-replicate size noWindow

@@ -1,5 +1,5 @@
 -- The sheet file as it is written (document 01, "The sheet file"): the numbers of a sheet in their order, each in groups.
--- That reading it gives the sheet back, and that writing what was read gives the same bytes, are theorems (proofs/There, Back, Trips).
+-- That reading it gives the sheet back, and that writing what was read gives the same bytes, are theorems (proofs/There, Back).
 use Prim.Native.Nat.{ℕ, zero, suc, _+_, _*_, _/_, _%_}
 use mathlib.Core.List.{List, [], _∷_, _++_}
 use lib.ListN.{length, take, drop}

@@ -8,7 +8,7 @@ use ends::Ended;
 use ends::High;
 use lines::put_plan;
 use lines::put_refused;
-use sheet::Read;
+use reader::Read;
 ghost use mathlib.Core.Path.{_≡_};
 ghost use mathlib.Core.Logic.{_⊎_};
 ghost use Prim.Native.Nat.{_≤_};
@@ -165,7 +165,7 @@ fn tell_read(file: &[u8], tables: &mut [i32], schedule: &mut [u8], out: &mut [u8
     requires { ⌜ (length (now tables) ≡ 4608) × (length (now schedule) ≡ 16) ⌝ }
     ensures { λ r. ⌜ Stands (Tells (sheetIn (now (file .entry)))) (now (out .entry)) r (now (out .exit)) ⌝ }
 {
-    let read = sheet::read_sheet(file, tables, schedule);
+    let read = reader::read_sheet(file, tables, schedule);
     match read {
         Read::Refused { number } => put_refused(out, number),
         Read::Done { n, m, positions } => {

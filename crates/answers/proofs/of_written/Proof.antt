@@ -1,6 +1,6 @@
 -- `answers::of_written` meets its contract: the length is the answer's value.
 use mathlib.Core.Path.{ap}
-use Rattle.sheet.specs.Answers.{answerWritten}
+use Rattle.writer.specs.Answers.{answerWritten}
 use Rattle.answers.proofs.Answers.{one-given}
 use borrow.Author.Needs.{needs}
 use Rattle.answers.proofs.of_written.Statement.{statement}

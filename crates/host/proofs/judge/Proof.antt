@@ -4,7 +4,7 @@ use native.Mathlib.Omega.{arith}
 use lib.Seq.{length-take-le}
 use Rattle.tables.specs.Sheets.{Sheet}
 use Rattle.tables.proofs.Laws.{square}
-use Rattle.sheet.proofs.Held.{Held, held-admitted, held-sizes, held-few, read-held, read-refused}
+use Rattle.reader.proofs.Leaves.{Leaves, leaves-admitted, leaves-sizes, leaves-few, read-leaves, read-refused}
 use Rattle.sheet.specs.File.{Part}
 use Rattle.host.specs.Host.{AnswersPart}
 use borrow.Author.Needs.{needs}
@@ -24,38 +24,38 @@ enum-known-read-2 : tie.Need-enum-known-read-2
 enum-known-read-2 c = search needs
 
 -- the sheet is in the first places
-held : (c : tie.After-known-told2) → let g = c .before .read2 .given .0 in let r = c .before .before .before .before .before .before in let s = r .before .before .before .before .before in
-    Held (s .args .file .now) (s .args .tables .now) (s .args .schedule .now) (s .pre .0) (s .pre .1) (g .0) (g .1 .0) (g .1 .1 .0) (r .read-sheet .last .1 .0) (r .read-sheet .last .1 .1 .0)
-held c = let r = c .before .before .before .before .before .before in
-    read-held _ _ _ _ _ (r .read-sheet .result) _ _ _ _ _ (c .before .read2 .given .1) (r .read-sheet .ensures)
+leaves : (c : tie.After-known-told2) → let g = c .before .read2 .given .0 in let r = c .before .before .before .before .before .before in let s = r .before .before .before .before .before in
+    Leaves (s .args .file .now) (s .args .tables .now) (s .args .schedule .now) (s .pre .0) (s .pre .1) (g .0) (g .1 .0) (g .1 .1 .0) (r .read-sheet .last .1 .0) (r .read-sheet .last .1 .1 .0)
+leaves c = let r = c .before .before .before .before .before .before in
+    read-leaves _ _ _ _ _ (r .read-sheet .result) _ _ _ _ _ (c .before .read2 .given .1) (r .read-sheet .ensures)
 
 mul-places : tie.Need-mul-places
-mul-places c = omega (arith, held-sizes (held c) .few-modes)
+mul-places c = omega (arith, leaves-sizes (leaves c) .few-modes)
 
 mul-places-2 : tie.Need-mul-places-2
-mul-places-2 c = omega (arith, square _ (held-sizes (held c) .few-events))
+mul-places-2 c = omega (arith, square _ (leaves-sizes (leaves c) .few-events))
 
 mul-places-3 : tie.Need-mul-places-3
-mul-places-3 c = omega (arith, held-few (held c))
+mul-places-3 c = omega (arith, leaves-few (leaves c))
 
 slice-reshare-prefix-decide : tie.Need-slice-reshare-prefix-decide
 slice-reshare-prefix-decide c = let r = c .before .before .before .before .before .before in
-    omega (arith, held-few (held c), r .read-sheet .kept .1 .0)
+    omega (arith, leaves-few (leaves c), r .read-sheet .kept .1 .0)
 
 slice-aggregate-decide : tie.Need-slice-aggregate-decide
 slice-aggregate-decide c = let r = c .before .before .before .before .before .before .before in
-    sym (length-take-le _ (r .read-sheet .last .1 .0) (omega (arith, held-few (held (c .before)), r .read-sheet .kept .1 .0)))
+    sym (length-take-le _ (r .read-sheet .last .1 .0) (omega (arith, leaves-few (leaves (c .before)), r .read-sheet .kept .1 .0)))
 
 slice-reshare-prefix-decide-2 : tie.Need-slice-reshare-prefix-decide-2
 slice-reshare-prefix-decide-2 c = let r = c .before .before .before .before .before .before .before in
-    omega (arith, held-sizes (held (c .before)) .few-positions, r .read-sheet .kept .1 .1 .0)
+    omega (arith, leaves-sizes (leaves (c .before)) .few-positions, r .read-sheet .kept .1 .1 .0)
 
 slice-aggregate-decide-2 : tie.Need-slice-aggregate-decide-2
 slice-aggregate-decide-2 c = let r = c .before .before .before .before .before .before .before .before in
-    sym (length-take-le _ (r .read-sheet .last .1 .1 .0) (omega (arith, held-sizes (held (c .before .before)) .few-positions, r .read-sheet .kept .1 .1 .0)))
+    sym (length-take-le _ (r .read-sheet .last .1 .1 .0) (omega (arith, leaves-sizes (leaves (c .before .before)) .few-positions, r .read-sheet .kept .1 .1 .0)))
 
 decide-requires : tie.Need-decide-requires
-decide-requires c κs = held-admitted (held (c .before .before))
+decide-requires c κs = leaves-admitted (leaves (c .before .before))
 
 same-length : tie.Need-same-length
 same-length c = search needs
@@ -75,7 +75,7 @@ same-length-4 c = search needs
 
 returns-2 : tie.Need-returns-2
 returns-2 c = let s = c .before .before .before .before .before .before .before .before .before .before .before .before .before .before in
-    subst (λ (x : Part Sheet). AnswersPart x (s .args .p) (s .args .q) (c .decide .result)) (sym (held (c .before .before .before) .is)) (c .decide .ensures)
+    subst (λ (x : Part Sheet). AnswersPart x (s .args .p) (s .args .q) (c .decide .result)) (sym (leaves (c .before .before .before) .is)) (c .decide .ensures)
 
 pub judge-spec : {M : Type 1} → statement M
 judge-spec =

@@ -1,7 +1,7 @@
 -- `probe::probe_write` meets its contract: the writer's answer, handed over.
 use mathlib.Core.Path.{_≡_, ap, _∙_}
 use lib.Seq.{sets}
-use Rattle.sheet.specs.Answers.{answerWritten}
+use Rattle.writer.specs.Answers.{answerWritten}
 use borrow.Author.Needs.{needs}
 use Rattle.probe.proofs.probe_write.Statement.{statement}
 use Rattle.probe.proofs.probe_write.Tie as tie
@@ -9,7 +9,7 @@ use Rattle.probe.proofs.probe_write.Reads as reads
 use Rattle.probe.proofs.probe_write.Lts as lts
 use Rattle.answers.proofs.give.Reads as give-reads
 use Rattle.answers.proofs.of_written.Reads as of-written-reads
-use Rattle.sheet.proofs.write_sheet.Reads as write-sheet-reads
+use Rattle.writer.proofs.write_sheet.Reads as write-sheet-reads
 
 -- src/lib.rt:112:24
 write-sheet-requires : tie.Need-write-sheet-requires

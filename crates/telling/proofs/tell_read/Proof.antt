@@ -1,6 +1,6 @@
 -- `telling::tell_read` meets its contract: the sheet told of is the one that the bytes are read as.
 use Rattle.telling.proofs.Telling.{tells-refused, tells-got}
-use Rattle.sheet.proofs.Held.{Held, held-admitted, held-sizes, held-few, read-held, read-refused}
+use Rattle.reader.proofs.Leaves.{Leaves, leaves-admitted, leaves-sizes, leaves-few, read-leaves, read-refused}
 use Rattle.tables.proofs.Laws.{square}
 use Rattle.tables.specs.Sheets.{Sheet}
 use lib.Seq.{length-take-le}
@@ -13,7 +13,7 @@ use Rattle.telling.proofs.tell_read.Reads as reads
 use Rattle.telling.proofs.tell_read.Lts as lts
 use Rattle.lines.proofs.put_refused.Reads as put-refused-reads
 use Rattle.telling.proofs.tell_admitted.Reads as tell-admitted-reads
-use Rattle.sheet.proofs.read_sheet.Reads as read-sheet-reads
+use Rattle.reader.proofs.read_sheet.Reads as read-sheet-reads
 
 -- src/lib.rt:142:9
 read-sheet-requires : tie.Need-read-sheet-requires
@@ -32,41 +32,41 @@ enum-known-read-2 : tie.Need-enum-known-read-2
 enum-known-read-2 c = search needs
 
 -- the sheet is in the first places
-held : (c : tie.After-known-told2) → let g = c .before .read2 .given .0 in let r = c .before .before .before .before .before .before .read-sheet in let s = c .before .before .before .before .before .before .before .before .before .before .before .before in
-    Held (s .args .file .now) (s .args .tables .now) (s .args .schedule .now) (s .pre .0) (s .pre .1) (g .0) (g .1 .0) (g .1 .1 .0) (r .last .1 .0) (r .last .1 .1 .0)
-held c = let r = c .before .before .before .before .before .before .read-sheet in read-held _ _ _ _ _ (r .result) _ _ _ _ _ (c .before .read2 .given .1) (r .ensures)
+leaves : (c : tie.After-known-told2) → let g = c .before .read2 .given .0 in let r = c .before .before .before .before .before .before .read-sheet in let s = c .before .before .before .before .before .before .before .before .before .before .before .before in
+    Leaves (s .args .file .now) (s .args .tables .now) (s .args .schedule .now) (s .pre .0) (s .pre .1) (g .0) (g .1 .0) (g .1 .1 .0) (r .last .1 .0) (r .last .1 .1 .0)
+leaves c = let r = c .before .before .before .before .before .before .read-sheet in read-leaves _ _ _ _ _ (r .result) _ _ _ _ _ (c .before .read2 .given .1) (r .ensures)
 
 -- src/lib.rt:146:26
 mul-places : tie.Need-mul-places
-mul-places c = omega (arith, held-sizes (held c) .few-modes)
+mul-places c = omega (arith, leaves-sizes (leaves c) .few-modes)
 
 -- src/lib.rt:146:35
 mul-places-2 : tie.Need-mul-places-2
-mul-places-2 c = omega (arith, square _ (held-sizes (held c) .few-events))
+mul-places-2 c = omega (arith, square _ (leaves-sizes (leaves c) .few-events))
 
 -- src/lib.rt:146:26
 mul-places-3 : tie.Need-mul-places-3
-mul-places-3 c = omega (arith, held-few (held c))
+mul-places-3 c = omega (arith, leaves-few (leaves c))
 
 -- src/lib.rt:151:17
 slice-reshare-prefix-tell-admitted : tie.Need-slice-reshare-prefix-tell-admitted
-slice-reshare-prefix-tell-admitted c = omega (arith, held-few (held c), c .before .before .before .before .before .before .read-sheet .kept .1 .0)
+slice-reshare-prefix-tell-admitted c = omega (arith, leaves-few (leaves c), c .before .before .before .before .before .before .read-sheet .kept .1 .0)
 
 -- src/lib.rt:151:17
 slice-aggregate-tell-admitted : tie.Need-slice-aggregate-tell-admitted
-slice-aggregate-tell-admitted c = let r = c .before .before .before .before .before .before .before .read-sheet in sym (length-take-le _ (r .last .1 .0) (omega (arith, held-few (held (c .before)), r .kept .1 .0)))
+slice-aggregate-tell-admitted c = let r = c .before .before .before .before .before .before .before .read-sheet in sym (length-take-le _ (r .last .1 .0) (omega (arith, leaves-few (leaves (c .before)), r .kept .1 .0)))
 
 -- src/lib.rt:152:17
 slice-reshare-prefix-tell-admitted-2 : tie.Need-slice-reshare-prefix-tell-admitted-2
-slice-reshare-prefix-tell-admitted-2 c = omega (arith, held-sizes (held (c .before)) .few-positions, c .before .before .before .before .before .before .before .read-sheet .kept .1 .1 .0)
+slice-reshare-prefix-tell-admitted-2 c = omega (arith, leaves-sizes (leaves (c .before)) .few-positions, c .before .before .before .before .before .before .before .read-sheet .kept .1 .1 .0)
 
 -- src/lib.rt:152:17
 slice-aggregate-tell-admitted-2 : tie.Need-slice-aggregate-tell-admitted-2
-slice-aggregate-tell-admitted-2 c = let r = c .before .before .before .before .before .before .before .before .read-sheet in sym (length-take-le _ (r .last .1 .1 .0) (omega (arith, held-sizes (held (c .before .before)) .few-positions, r .kept .1 .1 .0)))
+slice-aggregate-tell-admitted-2 c = let r = c .before .before .before .before .before .before .before .before .read-sheet in sym (length-take-le _ (r .last .1 .1 .0) (omega (arith, leaves-sizes (leaves (c .before .before)) .few-positions, r .kept .1 .1 .0)))
 
 -- src/lib.rt:147:13
 tell-admitted-requires : tie.Need-tell-admitted-requires
-tell-admitted-requires c κs = held-admitted (held (c .before .before .before))
+tell-admitted-requires c κs = leaves-admitted (leaves (c .before .before .before))
 
 -- src/lib.rt:138:1
 same-length : tie.Need-same-length
@@ -98,7 +98,7 @@ same-length-6 c = search needs
 
 -- src/lib.rt:138:1
 returns-2 : tie.Need-returns-2
-returns-2 c = tells-got _ _ _ (held (c .before .before .before .before .before .before) .is) (c .before .before .tell-admitted .ensures)
+returns-2 c = tells-got _ _ _ (leaves (c .before .before .before .before .before .before) .is) (c .before .before .tell-admitted .ensures)
 
 pub tell-read-spec : {M : Type 1} → statement M
 tell-read-spec =

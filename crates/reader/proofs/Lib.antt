@@ -1,0 +1,7 @@
+-- laws of the reader's steps
+pub mod Schedules
+pub mod Filling
+pub mod Outcomes
+-- what a caller has
+pub mod Leaves
+pub mod Trips

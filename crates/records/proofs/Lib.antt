@@ -1,0 +1,5 @@
+pub mod Ranges
+pub mod Walking
+pub mod Records
+pub mod Lent
+pub mod Modes

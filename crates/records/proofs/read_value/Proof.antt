@@ -1,0 +1,81 @@
+-- `records::read_value` meets its contract. The value's limit is tested by its code, 2,000,000 for 1,000,000; then the place.
+use mathlib.Core.Path.{_≡_, sym, ap, _∙_}
+use mathlib.Core.Bool.{true, false}
+use Prim.Native.Nat.{ℕ, _≤_, _<_}
+use native.Mathlib.Omega.{arith}
+use borrow.Author.Tests.{le-leb, lt-leb}
+use Rattle.numbers.specs.Groups.{numberAt}
+use Rattle.numbers.specs.Signs.{decoded}
+use Rattle.numbers.specs.declared.Number.the-variants.{Value}
+use Rattle.tables.specs.Sheets.{inLimit}
+use Rattle.sheet.specs.File.{refused, valueAt, rising}
+use Rattle.sheet.proofs.Numbers.{after-value, after-refused, tested-refused, tested-yes, tested-no}
+use Rattle.records.proofs.Ranges.{limits, up-to, refused-is}
+use borrow.Author.Needs.{needs}
+use Rattle.records.proofs.read_value.Statement.{statement}
+use Rattle.records.proofs.read_value.Tie as tie
+
+-- the limits as the file has them
+in-limit : (u : ℕ) → u ≤ 2000000 → inLimit (decoded u) ≡ true
+in-limit u h = sym (limits u) ∙ up-to u 2000000 ∙ le-leb u 2000000 h
+
+past-limit : (u : ℕ) → 2000000 < u → inLimit (decoded u) ≡ false
+past-limit u h = sym (limits u) ∙ up-to u 2000000 ∙ lt-leb u 2000000 h
+
+-- the number as it was read, and what is left where its limit is kept
+code-at : (c : tie.After-known-told) → let s = c .before .before .before .before .before in numberAt (s .args .file .now) (s .args .at) ≡ Value (c .before .read .given .0 .0) (c .before .read .given .0 .1 .0)
+code-at c = sym (c .before .before .before .number-at .ensures) ∙ c .before .read .given .1
+
+left : (c : tie.Else1) → let k = c .before in let a = k .before .before .before .before .before .args in
+    valueAt (a .file .now) (a .low) (a .place) (a .at) ≡ rising (a .low) (a .place) (decoded (k .before .read .given .0 .0)) (k .before .read .given .0 .1 .0)
+unfolding valueAt
+left c = let k = c .before in
+    after-value _ _ _ _ (tested-yes (λ u. inLimit (decoded u)) 6 _ _ _ (code-at k) (in-limit (k .before .read .given .0 .0) (c .if1 .left)))
+
+number-at-requires : tie.Need-number-at-requires
+number-at-requires c κs = search needs
+
+enum-known-read : tie.Need-enum-known-read
+enum-known-read c = search needs
+
+enum-told : tie.Need-enum-told
+enum-told c = search needs
+
+refusal-requires : tie.Need-refusal-requires
+refusal-requires c κs = search needs
+
+returns : tie.Need-returns
+unfolding valueAt
+returns c =
+    ap refused (refused-is _ _ _ (c .refusal .ensures) (c .before .enum-told .given .1))
+    ∙ sym (after-refused _ _ _ (tested-refused (λ u. inLimit (decoded u)) 6 _ _ (sym (c .before .before .before .number-at .ensures) ∙ c .before .enum-told .given .1)))
+
+returns-2 : tie.Need-returns-2
+unfolding valueAt
+returns-2 c = let k = c .before in
+    sym (after-refused _ _ _ (tested-no (λ u. inLimit (decoded u)) 6 _ _ _ (code-at k) (past-limit (k .before .read .given .0 .0) (c .if1 .taken))))
+
+returns-3 : tie.Need-returns-3
+unfolding rising
+returns-3 c = sym (left (c .before) ∙ rw (lt-leb _ _ (c .if2 .taken)))
+
+cast-t10 : tie.Need-cast-t10
+cast-t10 c = omega (arith, c .before .if1 .left)
+
+returns-4 : tie.Need-returns-4
+unfolding rising
+returns-4 c = sym (left (c .before) ∙ rw (le-leb _ _ (c .if2 .left)))
+
+pub read-value-spec : {M : Type 1} → statement M
+read-value-spec =
+    tie.close
+    (tie.spec
+    number-at-requires
+    enum-known-read
+    enum-told
+    refusal-requires
+    returns
+    returns-2
+    returns-3
+    cast-t10
+    returns-4)
