@@ -10,10 +10,9 @@ use Rattle.tables.proofs.Laws.{Admitted}
 use Rattle.windows.specs.Arcs.{nodes, arcs}
 use Rattle.layout.specs.declared.Window.{Window as Item}
 use Rattle.layout.specs.Records.{Modes}
-use Rattle.rounds.specs.Rounds.{walked, Ran}
-use Rattle.rounds.proofs.Sheets.{table-is}
+use Rattle.turns.specs.Rounds.{walked, Filled, Ran}
+use Rattle.turns.proofs.Sheets.{table-is}
 use Rattle.ask.specs.Ask.{Accepts}
-use Rattle.ask.specs.Ways.{Filled}
 use Rattle.ask.proofs.Earliest.{table-earliest}
 
 module _ (s : Sheet) (ok : Admitted s) (p q : ℕ) (l : List Item) (start : List ℕ) (laid : Modes (s .tables) (s .n) l start (s .m))

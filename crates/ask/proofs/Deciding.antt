@@ -9,12 +9,12 @@ use Rattle.tables.proofs.Laws.{Admitted}
 use Rattle.windows.specs.Arcs.{nodes}
 use Rattle.layout.specs.declared.Window.{Window as Item}
 use Rattle.layout.specs.Records.{Modes}
-use Rattle.rounds.specs.Rounds.{Named, walked, Rose, Told, Ran}
+use Rattle.turns.specs.Rounds.{Named, walked, Rose, Told, Ran}
 use Rattle.ask.specs.Ask as ask
 use Rattle.ask.specs.Ask.{Answer, askRefusal, Outcome}
 use Rattle.ask.specs.Answers.{Ends, Finishes, Settles}
-use Rattle.ask.proofs.Tracing.{led}
-use Rattle.ask.proofs.Circuits.{shows}
+use Rattle.circuits.proofs.Tracing.{led}
+use Rattle.circuits.proofs.Circuits.{refuted}
 use Rattle.ask.proofs.Accepting.{accepts}
 
 module _ (s : Sheet) (ok : Admitted s) (p q : ℕ) (l : List Item) (start : List ℕ) (laid : Modes (s .tables) (s .n) l start (s .m))
@@ -40,7 +40,8 @@ module _ (s : Sheet) (ok : Admitted s) (p q : ℕ) (l : List Item) (start : List
   settles plan₀ circuit₀ long (ask.refuted count) plan circuit f =
       let e = ran .last (full (f .0)) in
       let t = f .1 in
-      rw (t .counted, f .2) (shows s ok p q l start laid marks (nodes s) node (told (f .0)) refl (e .0) (e .1) (t .path) (t .node) (t .low) (t .high) (t .found) plan₀ circuit₀ circuit long (t .turned))
+      let r = refuted s ok p q l start laid marks (nodes s) node (told (f .0)) refl (e .0) (e .1) (t .path) (t .node) (t .low) (t .high) (t .found) circuit₀ circuit long (t .turned) in
+      rw (t .counted) (record { steps = r .0; refutes = r .1; counted = r .2; circuit-is = r .3; plan-same = f .2 })
   settles plan₀ circuit₀ long (ask.refused k) plan circuit f = absurd f
 
 -- where no refusal fits, that is the whole outcome

@@ -1,10 +1,6 @@
 pub mod Unique
 pub mod Bounds
 pub mod Earliest
-pub mod Backs
-pub mod Writing
-pub mod Tracing
-pub mod Circuits
 pub mod Accepting
 pub mod Refusals
 pub mod Deciding

@@ -11,7 +11,7 @@ use lib.ListN.{length}
 use Rattle.tables.specs.Sheets.{Sheet, within, unless, refusal, otherwise}
 use Rattle.tables.proofs.Laws.{both, within-is, Admitted, accepted}
 use Rattle.windows.specs.Arcs.{nodes}
-use Rattle.rounds.specs.Rounds.{Limits}
+use Rattle.turns.specs.Rounds.{Limits}
 use Rattle.ask.specs.Ask.{timed, roomy, askRefusal}
 
 passes : (a : ℕ) (b c : Bool) → otherwise a (unless b 10 (unless c 9 0)) ≡ 0 → (a ≡ 0) × (b ≡ true) × (c ≡ true)

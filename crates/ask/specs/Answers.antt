@@ -8,7 +8,8 @@ use Rattle.ask.specs.declared.Asked.{Asked}
 use Rattle.ask.specs.declared.Asked.the-variants as asked
 use Rattle.ask.specs.Ask.{Answer, Accepts, Shows}
 use Rattle.ask.specs.Ask as ask
-use Rattle.ask.specs.Ways.{Led, Traced, Filled}
+use Rattle.turns.specs.Rounds.{Filled}
+use Rattle.circuits.specs.Ways.{Led, Traced}
 
 abbrev pub answer : Asked → Answer
 answer (asked.Accepted rounds) = ask.accepted rounds

@@ -1,3 +1,2 @@
 pub mod Ask
-pub mod Ways
 pub mod Answers

@@ -7,11 +7,11 @@ use Rattle.ask.proofs.finish.Tie as tie
 mul-nodes : tie.Need-mul-nodes
 mul-nodes c = search needs
 
-slice-aggregate-write-plan : tie.Need-slice-aggregate-write-plan
-slice-aggregate-write-plan c = search needs
+slice-aggregate-write-times : tie.Need-slice-aggregate-write-times
+slice-aggregate-write-times c = search needs
 
-write-plan-requires : tie.Need-write-plan-requires
-write-plan-requires c κs = let s = c .before .before .before .before .before .before .before in (omega (arith, s .pre .1, slice-aggregate-write-plan (c .before)), s .pre .2)
+write-times-requires : tie.Need-write-times-requires
+write-times-requires c κs = let s = c .before .before .before .before .before .before .before in (omega (arith, s .pre .1, slice-aggregate-write-times (c .before)), s .pre .2)
 
 same-length : tie.Need-same-length
 same-length c = search needs
@@ -33,8 +33,8 @@ finish-spec =
     tie.close
     (tie.spec
     mul-nodes
-    slice-aggregate-write-plan
-    write-plan-requires
+    slice-aggregate-write-times
+    write-times-requires
     same-length
     returns
     refute-requires

@@ -5,8 +5,8 @@ use Rattle.tables.specs.Sheets.{Sheet, sheet}
 use Rattle.windows.proofs.Limits.{nodes-few}
 use Rattle.layout.specs.Records.{Modes}
 use Rattle.layout.proofs.Laying.{modes}
-use Rattle.rounds.specs.Rounds.{Posed}
-use Rattle.rounds.proofs.Sheets.{parts}
+use Rattle.turns.specs.Rounds.{Posed}
+use Rattle.turns.proofs.Sheets.{parts}
 use Rattle.ask.specs.Answers.{answer}
 use Rattle.ask.proofs.Refusals.{Granted, granted, limits}
 use Rattle.ask.proofs.Deciding.{ends, settles}

@@ -3,7 +3,7 @@ use mathlib.Core.Path.{refl}
 use Prim.Native.Nat.{ℕ, _*_, _≤_}
 use native.Mathlib.Omega.{arith}
 use native.Mathlib.Nat.{mul-le-mul}
-use Rattle.rounds.proofs.Places.{nodes-small}
+use Rattle.turns.proofs.Places.{nodes-small}
 use borrow.Author.Needs.{needs}
 use Rattle.rounds.proofs.run.Statement.{statement}
 use Rattle.rounds.proofs.run.Tie as tie
@@ -17,11 +17,11 @@ P c = c .before .before .before .before
 zeros-requires : tie.Need-zeros-requires
 zeros-requires c κs = search needs
 
-mul-turns : tie.Need-mul-turns
-mul-turns c = let s = P c in omega (arith, nodes-small (s .args .job .n) (s .args .job .positions) (s .args .job .p) (s .pre .0 .limits))
+mul-left : tie.Need-mul-left
+mul-left c = let s = P c in omega (arith, nodes-small (s .args .job .n) (s .args .job .positions) (s .args .job .p) (s .pre .0 .limits))
 
-mul-turns-2 : tie.Need-mul-turns-2
-mul-turns-2 c = let s = P (c .before) in let j = s .args .job in
+mul-left-2 : tie.Need-mul-left-2
+mul-left-2 c = let s = P (c .before) in let j = s .args .job in
     omega (arith, turns-few (j .positions * j .n) (j .positions) (nodes-small (j .n) (j .positions) (j .p) (s .pre .0 .limits)) (s .pre .0 .limits .few-positions))
 
 turn-at-requires : tie.Need-turn-at-requires
@@ -48,8 +48,8 @@ run-spec =
     tie.close
     (tie.spec
     zeros-requires
-    mul-turns
-    mul-turns-2
+    mul-left
+    mul-left-2
     turn-at-requires
     slice-aggregate-walk
     slice-aggregate-walk-2

@@ -1,0 +1,4 @@
+pub mod Backs
+pub mod Writing
+pub mod Tracing
+pub mod Circuits

@@ -1,0 +1,209 @@
+-- Rounds over the list of records (document 01, "Rounds"): "Every round reads only the table before it."
+-- These definitions face the code: what one arc, one position and one round do to a table of times and to the rows of marks.
+-- proofs/Tables ties them to the tables of the theory, proofs/Sheets to the arcs of a sheet.
+use mathlib.Core.Path.{_≡_}
+use mathlib.Core.Logic.{_≢_}
+use mathlib.Core.Bool.{Bool, true, false}
+use mathlib.Core.List.{List, [], _∷_, _++_, List·Memᴰ}
+use Prim.Native.Nat.{ℕ, zero, suc, _+_, _-_, _*_, _≤_, _<_, max}
+use native.Mathlib.Decide.{ℕ-discrete}
+use lib.Dec.{ltb, eqb}
+use lib.ListN.{length, getD, set, drop}
+use Rattle.theory.specs.Arcs.{only}
+use Rattle.layout.specs.declared.Edge.{Edge}
+use Rattle.layout.specs.declared.Window.{Window as Item}
+use Rattle.layout.specs.Records.{itemAt}
+use Rattle.layout.specs.Edges.{edgeOf}
+use Rattle.windows.specs.Arcs.{up, down}
+use Rattle.turns.specs.declared.Job.{Job}
+use Rattle.turns.specs.declared.Stand.{Stand}
+use Rattle.turns.specs.declared.Turn.{Turn}
+
+-- An arc with its mark, which names its position and its record.
+pub record Named : Type 0 where
+  pub mark : ℕ
+  pub edge : Edge
+
+-- the record k at a position
+abbrev pub named : Item → Stand → ℕ → Named
+named a at k = record { mark = at .mark + k + 1; edge = edgeOf a (at .q) (at .here) (at .next) (at .cross) }
+
+-- The position g + 1 of V: where its events and those of the next position stand, what crossing costs, how many steps a unit of time
+-- has, and where its marks begin.
+abbrev pub pick : {A : Type 0} → Bool → A → A → A
+pick true a b = a
+pick false a b = b
+
+unfoldable pub standOf : ℕ → ℕ → ℕ → ℕ → ℕ → Stand
+standOf g n positions p q =
+    pick (eqb (g + 1) positions) (record { here = g * n; next = 0; cross = p; q = q; mark = g * 4608 }) (record { here = g * n; next = (g + 1) * n; cross = 0; q = q; mark = g * 4608 })
+
+-- the times, and the marks
+pub record Board : Type 0 where
+  pub times : List ℕ
+  pub marks : List ℕ
+
+abbrev pub board : List ℕ → List ℕ → Board
+board t m = record { times = t; marks = m }
+
+-- what an arc asks of its arrival: "table r at departure plus weight"
+abbrev pub asks : (ℕ → ℕ) → Edge → ℕ
+asks t e = t (e .departure) + e .rise - e .fall
+
+-- an arc raises the time at its arrival, by what the old times ask, and leaves its mark in the row, where that is more
+unfoldable pub raise : List ℕ → ℕ → Named → Board → Board
+raise old row a b =
+    let e = a .edge in
+    let c = asks (λ v. getD old v 0) e in
+    pick (ltb (getD (b .times) (e .arrival) 0) c) (board (set (b .times) (e .arrival) c) (set (b .marks) (row + e .arrival) (a .mark))) b
+
+-- the arcs of a list, one after the other
+unfoldable pub after : List ℕ → ℕ → List Named → Board → Board
+after old row [] b = b
+after old row (a ∷ rest) b = after old row rest (raise old row a b)
+
+-- f a, f (a + 1), .., m in all
+unfoldable pub span : {A : Type 0} → (ℕ → A) → ℕ → ℕ → List A
+span f a zero = []
+span f a (suc m) = f a ∷ span f (suc a) m
+
+-- the arcs of a part of the list at a position, where the part begins with the record k
+abbrev pub passed : Stand → ℕ → List Item → List Named
+passed at k [] = []
+passed at k (a ∷ rest) = named a at k ∷ passed at (suc k) rest
+
+-- "a mode's part at each position where it stands": the arcs of the first g positions
+unfoldable pub walked : List Item → List ℕ → List ℕ → ℕ → ℕ → ℕ → ℕ → ℕ → List Named
+walked l start schedule n positions p q zero = []
+walked l start schedule n positions p q (suc g) =
+    let t = getD schedule g 0 in
+    walked l start schedule n positions p q g ++ span (λ k. named (itemAt l k) (standOf g n positions p q) k) (getD start t 0) (getD start (t + 1) 0 - getD start t 0)
+
+-- the arcs of all positions
+abbrev pub roundOf : List Item → Job → List ℕ → List Named
+roundOf l job schedule = walked l (job .start) schedule (job .n) (job .positions) (job .p) (job .q) (job .positions)
+
+-- The turn at the position g + 1 of the round r + 1, where `left` turns are left: the mode there has the records from `first` to `last`.
+abbrev pub turnOf : ℕ → ℕ → ℕ → ℕ → Job → List ℕ → Turn
+turnOf left r g node job schedule =
+    let t = getD schedule g 0 in
+    record { left = left; round = r; position = g; node = node; first = getD (job .start) t 0; last = getD (job .start) (t + 1) 0; at = standOf g (job .n) (job .positions) (job .p) (job .q) }
+
+-- ---- tables over a list of arcs, as the theory has them
+unfoldable pub mostOf : List Named → (ℕ → ℕ) → ℕ → ℕ
+unfolding ℕ-discrete
+mostOf [] t v = 0
+mostOf (a ∷ rest) t v = max (only (ℕ-discrete (a .edge .arrival) v) (asks t (a .edge))) (mostOf rest t v)
+
+unfoldable pub tableOf : List Named → ℕ → ℕ → ℕ
+tableOf arcs zero v = 0
+tableOf arcs (suc r) v = max (tableOf arcs r v) (mostOf arcs (tableOf arcs r) v)
+
+-- ---- what the functions are handed
+
+-- The records below `count` are windows between events 1 to n, with limits that are small.
+pub record Fine (l : List Item) (n count : ℕ) : Type 0 where
+  pub few : count ≤ 4608
+  pub to-first : (k : ℕ) → k < count → 1 ≤ itemAt l k .to
+  pub to-last : (k : ℕ) → k < count → itemAt l k .to ≤ n
+  pub from-first : (k : ℕ) → k < count → 1 ≤ itemAt l k .from
+  pub from-last : (k : ℕ) → k < count → itemAt l k .from ≤ n
+  pub up-small : (k : ℕ) → k < count → up (itemAt l k .w) ≤ 1000000
+  pub down-small : (k : ℕ) → k < count → down (itemAt l k .w) ≤ 1000000
+
+-- The position's events and the next one's stand among N nodes.
+pub record Stands (at : Stand) (n N : ℕ) : Type 0 where
+  pub here-in : at .here + n ≤ N
+  pub next-in : at .next + n ≤ N
+  pub few : N ≤ 192
+  pub cross-small : at .cross ≤ 1000000000
+  pub q-small : at .q ≤ 1000
+  pub mark-small : at .mark ≤ 69120
+
+-- The old times are small, and there is room for N times, old and new, and for a row of N marks.
+pub record Boards (old new marks : List ℕ) (row N : ℕ) : Type 0 where
+  pub old-long : N ≤ length old
+  pub new-long : N ≤ length new
+  pub marks-long : row + N ≤ length marks
+  pub small : (v : ℕ) → v < N → getD old v 0 ≤ 1000000000000000
+
+-- An arc's nodes are among the times, and its sum is small.
+pub record Reach (e : Edge) (old new marks : List ℕ) (row : ℕ) : Type 0 where
+  pub departs : e .departure < length old
+  pub arrives : e .arrival < length new
+  pub marks-in : row + e .arrival < length marks
+  pub sum-small : getD old (e .departure) 0 + e .rise < 9000000000000000
+
+-- What one record's step rests on.
+pub record Able (a : Item) (at : Stand) (k : ℕ) (old new marks : List ℕ) (row : ℕ) : Type 0 where
+  pub to-first : 1 ≤ a .to
+  pub from-first : 1 ≤ a .from
+  pub here-few : at .here < 4096
+  pub next-few : at .next < 4096
+  pub q-small : at .q ≤ 1000
+  pub cross-small : at .cross < 4294967296000
+  pub first-few : at .mark ≤ 69120
+  pub few : k < 4608
+  pub marks-few : length marks ≤ 36864
+  pub reach : Reach (named a at k .edge) old new marks row
+
+-- The numbers of events and positions are within their limits, and so is p.
+pub record Limits (n positions p : ℕ) : Type 0 where
+  pub some-events : 1 ≤ n
+  pub few-events : n ≤ 12
+  pub some-positions : 1 ≤ positions
+  pub few-positions : positions ≤ 16
+  pub p-small : p ≤ 1000000000
+
+-- What is asked is within its limits, and each position's mode has a part of the records.
+pub record Posed (job : Job) (schedule : List ℕ) : Type 0 where
+  pub limits : Limits (job .n) (job .positions) (job .p)
+  pub q-small : job .q ≤ 1000
+  pub long : job .positions ≤ length schedule
+  pub mode : (g : ℕ) → g < job .positions → getD schedule g 0 + 1 < 9
+
+-- Those parts are fine.
+pub record Parts (l : List Item) (n : ℕ) (start schedule : List ℕ) (positions : ℕ) : Type 0 where
+  pub rising : (g : ℕ) → g < positions → getD start (getD schedule g 0) 0 ≤ getD start (getD schedule g 0 + 1) 0
+  pub fine : (g : ℕ) → g < positions → Fine l n (getD start (getD schedule g 0 + 1) 0)
+
+-- ---- what the rounds leave
+
+-- v is the first place below n where the lists differ, or n
+pub record Differs (xs ys : List ℕ) (n v : ℕ) : Type 0 where
+  pub within : v ≤ n
+  pub same : (k : ℕ) → k < v → getD xs k 0 ≡ getD ys k 0
+  pub other : v < n → getD xs v 0 ≢ getD ys v 0
+
+-- the first `count` places are those of the times, and the rest stays
+pub record Filled (times : List ℕ) (count : ℕ) (old new : List ℕ) : Type 0 where
+  pub long : length new ≡ length old
+  pub inside : (v : ℕ) → v < count → getD new v 0 ≡ getD times v 0
+  pub rest : drop count new ≡ drop count old
+
+-- After a turn comes that of the next position, or, after the last one, that of the next round, which reads what this round wrote; or
+-- none, where the round changed nothing.
+pub data Next (t : Turn) (job : Job) (schedule old new : List ℕ) (t′ : Turn) (old′ : List ℕ) : Type 0 where
+  on : t .position + 1 < job .positions → t′ ≡ turnOf (t .left - 1) (t .round) (t .position + 1) (t .node) job schedule → old′ ≡ old → Next t job schedule old new t′ old′
+  still : job .positions ≤ t .position + 1 → Differs old new (job .positions * job .n) (job .positions * job .n) → t′ ≡ turnOf 0 (t .round) 0 (job .positions * job .n) job schedule → old′ ≡ old → Next t job schedule old new t′ old′
+  again : job .positions ≤ t .position + 1 → (d : ℕ) → d < job .positions * job .n → Differs old new (job .positions * job .n) d → t′ ≡ turnOf (t .left - 1) (t .round + 1) 0 d job schedule → old′ ≡ new → Next t job schedule old new t′ old′
+
+-- the mark of v in row r names the arc that raised v in round r + 1
+pub record Told (arcs : List Named) (marks : List ℕ) (r v : ℕ) : Type 0 where
+  pub by : Named
+  pub member : List·Memᴰ by arcs
+  pub marked : getD marks (r * 192 + v) 0 ≡ by .mark
+  pub arrives : by .edge .arrival ≡ v
+  pub exact : tableOf arcs (suc r) v + by .edge .fall ≡ tableOf arcs r (by .edge .departure) + by .edge .rise
+
+abbrev pub Rose : List Named → ℕ → ℕ → Type 0
+Rose arcs r v = tableOf arcs r v < tableOf arcs (suc r) v
+
+-- The rounds ran until one changed nothing, or N times: `rounds` of them changed something.
+pub record Ran (arcs : List Named) (N rounds node : ℕ) (times marks : List ℕ) : Type 0 where
+  pub few : rounds ≤ N
+  pub still : rounds < N → (v : ℕ) → v < N → tableOf arcs (suc rounds) v ≡ tableOf arcs rounds v
+  pub table : (v : ℕ) → v < N → getD times v 0 ≡ tableOf arcs rounds v
+  pub rising : (r : ℕ) → r < rounds → (v : ℕ) × (v < N) × Rose arcs r v
+  pub told : (r v : ℕ) → r < rounds → v < N → Rose arcs r v → Told arcs marks r v
+  pub last : rounds ≡ N → (node < N) × Rose arcs (N - 1) node
