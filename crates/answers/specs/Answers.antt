@@ -4,10 +4,10 @@ use mathlib.Core.List.{List, [], _∷_}
 use Prim.Native.Nat.{ℕ, _≤_}
 use lib.ListN.{length, take}
 use Rattle.answers.specs.declared.Answered.{Answered}
-use Rattle.ask.specs.Ask as ask
+use Rattle.calls.specs.Ask as ask
 use Rattle.ask.specs.Answers as asked-answers
 use Rattle.ask.specs.declared.Asked.{Asked}
-use Rattle.ends.specs.Ends as ends
+use Rattle.calls.specs.Ends as ends
 use Rattle.ends.specs.declared.High.{High}
 use Rattle.ends.specs.declared.High.the-variants as high
 use Rattle.ends.specs.declared.Ended.{Ended}

@@ -12,8 +12,8 @@ use Rattle.layout.specs.declared.Window.{Window as Item}
 use Rattle.layout.specs.Records.{Modes}
 use Rattle.turns.specs.Rounds.{walked, Filled, Ran}
 use Rattle.turns.proofs.Sheets.{table-is}
-use Rattle.ask.specs.Ask.{Accepts}
-use Rattle.ask.proofs.Earliest.{table-earliest}
+use Rattle.calls.specs.Ask.{Accepts}
+use Rattle.calls.proofs.Ask.Earliest.{table-earliest}
 
 module _ (s : Sheet) (ok : Admitted s) (p q : ℕ) (l : List Item) (start : List ℕ) (laid : Modes (s .tables) (s .n) l start (s .m))
     (r node : ℕ) (times marks : List ℕ) (ran : Ran (walked l start (s .schedule) (s .n) (s .positions) p q (s .positions)) (nodes s) r node times marks) where

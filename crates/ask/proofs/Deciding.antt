@@ -10,8 +10,8 @@ use Rattle.windows.specs.Arcs.{nodes}
 use Rattle.layout.specs.declared.Window.{Window as Item}
 use Rattle.layout.specs.Records.{Modes}
 use Rattle.turns.specs.Rounds.{Named, walked, Rose, Told, Ran}
-use Rattle.ask.specs.Ask as ask
-use Rattle.ask.specs.Ask.{Answer, askRefusal, Outcome}
+use Rattle.calls.specs.Ask as ask
+use Rattle.calls.specs.Ask.{Answer, askRefusal, Outcome}
 use Rattle.ask.specs.Answers.{Ends, Finishes, Settles}
 use Rattle.circuits.proofs.Tracing.{led}
 use Rattle.circuits.proofs.Circuits.{refuted}

@@ -1,7 +1,3 @@
-pub mod Unique
-pub mod Bounds
-pub mod Earliest
+pub mod Posing
 pub mod Accepting
-pub mod Refusals
 pub mod Deciding
-pub mod Room

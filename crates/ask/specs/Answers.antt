@@ -6,8 +6,8 @@ use Rattle.tables.specs.Sheets.{Sheet}
 use Rattle.layout.specs.declared.Window.{Window as Item}
 use Rattle.ask.specs.declared.Asked.{Asked}
 use Rattle.ask.specs.declared.Asked.the-variants as asked
-use Rattle.ask.specs.Ask.{Answer, Accepts, Shows}
-use Rattle.ask.specs.Ask as ask
+use Rattle.calls.specs.Ask.{Answer, Accepts, Shows}
+use Rattle.calls.specs.Ask as ask
 use Rattle.turns.specs.Rounds.{Filled}
 use Rattle.circuits.specs.Ways.{Led, Traced}
 

@@ -1,2 +1,1 @@
-pub mod Ask
 pub mod Answers

@@ -7,7 +7,7 @@ ghost use Prim.Native.Nat.{_*_, _≤_};
 ghost use lib.Dec.{leb};
 ghost use lib.ListN.{length};
 ghost use Rattle.tables.specs.Sheets.{sheet};
-ghost use Rattle.ask.specs.Ask.{timed, askRefusal, Outcome};
+ghost use Rattle.calls.specs.Ask.{timed, askRefusal, Outcome};
 ghost use Rattle.ask.specs.Answers.{answer, Ends, Finishes, Settles};
 
 // The answer: the rounds of an acceptance, the arc count of a refutation, or the number of a refusal.

@@ -17,11 +17,11 @@ use Rattle.windows.specs.Arcs.{nodes, arcs}
 use Rattle.windows.specs.Circuits.{Step, numbers, stepArc, CircuitOf, Refutes}
 use Rattle.windows.proofs.Laying.{arcs-within}
 use Rattle.windows.proofs.Limits.{sheet-laid}
-use Rattle.ask.specs.Ask as ask
-use Rattle.ask.proofs.Earliest.{table-earliest}
-use Rattle.ask.proofs.Unique.{otherwise-none}
-use Rattle.ends.specs.Ends as ends
-use Rattle.ends.proofs.Found.{range-runs, never-runs}
+use Rattle.calls.specs.Ask as ask
+use Rattle.calls.proofs.Ask.Earliest.{table-earliest}
+use Rattle.calls.proofs.Ask.Unique.{otherwise-none}
+use Rattle.calls.specs.Ends as ends
+use Rattle.calls.proofs.Ends.Found.{range-runs, never-runs}
 use Rattle.cases.specs.Cases.{zeros, inRoom}
 use Rattle.cases.proofs.Tests.{keeps, keeps-plan}
 

@@ -11,8 +11,8 @@ use Rattle.tables.specs.Sheets.{Sheet, sheet, noWindow, place, places}
 use Rattle.windows.specs.Windows.{Kind, A0, B0, A1, B1, number}
 use Rattle.windows.specs.Arcs.{nodes}
 use Rattle.windows.specs.Circuits.{Step, numbers, stepArc}
-use Rattle.ask.specs.Ask as ask
-use Rattle.ends.specs.Ends as ends
+use Rattle.calls.specs.Ask as ask
+use Rattle.calls.specs.Ends as ends
 
 -- ---- sheets, as the table writes them
 

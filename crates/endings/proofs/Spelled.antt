@@ -7,7 +7,7 @@ use Rattle.text.specs.Text.{decimal}
 use Rattle.theory.specs.Ends.{High, open-end, up-to}
 use Rattle.tables.specs.Sheets.{Sheet}
 use Rattle.windows.specs.Circuits.{numbers}
-use Rattle.ends.specs.Ends.{Holds}
+use Rattle.calls.specs.Ends.{Holds}
 use Rattle.lines.specs.Lines.{line, circuitLines, highLines, high-word}
 use Rattle.lines.specs.Buffers.{circuitText, highText}
 use Rattle.lines.proofs.Spelled.{arcs-are}

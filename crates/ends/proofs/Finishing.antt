@@ -17,8 +17,8 @@ use Rattle.tables.proofs.Laws.{Admitted, accepted, both}
 use Rattle.windows.specs.Arcs.{nodes, arcs}
 use Rattle.windows.specs.Circuits.{CircuitOf}
 use Rattle.windows.proofs.Limits.{sheet-laid, nodes-few}
-use Rattle.ends.specs.Ends as ends
-use Rattle.ends.specs.Ends.{roomy, endsRefusal, Holds, Outcome}
+use Rattle.calls.specs.Ends as ends
+use Rattle.calls.specs.Ends.{roomy, endsRefusal, Holds, Outcome}
 use Rattle.search.specs.Copies.{copied, Fits}
 use Rattle.search.specs.Climbs.{Held, heldArcs, NoneHeld}
 use Rattle.search.specs.Searches.{Stands, Rests, Overhead, Descends, Fresh, Climbs}
@@ -32,25 +32,8 @@ use Rattle.search.specs.declared.Descended.{Descended}
 use Rattle.search.specs.declared.Descended.the-variants as descended
 use Rattle.weights.proofs.Held.{count-few}
 use Rattle.search.proofs.Climbing.{copied-starts}
-use Rattle.ends.proofs.Found.{range-runs, never-runs}
-
--- ---- no refusal fits
-
-parts : (r : ℕ) (b : Bool) → otherwise r (unless b 9 0) ≡ 0 → (r ≡ 0) × (b ≡ true)
-parts zero true e = (refl, refl)
-parts zero false e = absurd (omega arith)
-parts (suc r) b e = absurd (omega arith)
-
-pub record Granted (s : Sheet) (first second : List ℕ) : Type 0 where
-  pub admitted : refusal s ≡ 0
-  pub first-room : 4 * nodes s ≤ length first
-  pub second-room : 4 * nodes s ≤ length second
-
-pub granted : (s : Sheet) (first second : List ℕ) → endsRefusal s first second ≡ 0 → Granted s first second
-granted s first second e =
-    let p = parts (refusal s) (roomy s first second) e in
-    let r = both (leb (4 * nodes s) (length first)) (leb (4 * nodes s) (length second)) (p .1) in
-    record { admitted = p .0; first-room = leb-true _ _ (r .0); second-room = leb-true _ _ (r .1) }
+use Rattle.calls.proofs.Ends.Refusals.{Granted, granted}
+use Rattle.calls.proofs.Ends.Found.{range-runs, never-runs}
 
 -- ---- circuits handed over
 
@@ -199,19 +182,3 @@ module _ (s : Sheet) (low₀ found₀ first second : List ℕ) (f : FindReady s 
   pub none-fit : (count₁ count₂ : ℕ) (low found : List ℕ) → NoneHeld s low count₁ found count₂ × (length low ≡ 768) × (length found ≡ 768) → Fits count₁ low first × Fits count₂ found second
   none-fit count₁ count₂ low found o =
       (hand-ready s low count₁ first (room .admitted) (o .0 .held₁) (o .1) (room .first-room), hand-ready s found count₂ second (room .admitted) (o .0 .held₂) (o .2) (room .second-room))
-
--- ---- the refusals in their order
-
-module _ (s : Sheet) (first second : List ℕ) where
-  pub refused-sheet : (k : ℕ) → k ≡ refusal s → k ≢ 0 → endsRefusal s first second ≡ k
-  refused-sheet k e some = ap (λ (x : ℕ). otherwise x (unless (roomy s first second) 9 0)) (sym e) ∙ go k some
-    where
-      go : (k : ℕ) → k ≢ 0 → otherwise k (unless (roomy s first second) 9 0) ≡ k
-      go zero some = absurd (some refl)
-      go (suc k) some = refl
-
-  pub refused-9 : 0 ≡ refusal s → roomy s first second ≡ false → endsRefusal s first second ≡ 9
-  refused-9 e r = rw (← e, r)
-
-  pub refused-none : 0 ≡ refusal s → roomy s first second ≡ true → endsRefusal s first second ≡ 0
-  refused-none e r = rw (← e, r)

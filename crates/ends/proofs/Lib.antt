@@ -1,3 +1,1 @@
-pub mod Unique
-pub mod Found
 pub mod Finishing

@@ -9,8 +9,8 @@ use Rattle.theory.proofs.Found.{Low}
 use Rattle.tables.specs.Sheets.{Sheet, refusal}
 use Rattle.windows.specs.Inequalities.{Runs}
 use Rattle.windows.specs.Arcs.{nodes, arcs}
-use Rattle.ends.specs.Ends as ends
-use Rattle.ends.specs.Ends.{endsRefusal}
+use Rattle.calls.specs.Ends as ends
+use Rattle.calls.specs.Ends.{endsRefusal}
 use Rattle.search.specs.Searches.{Stands}
 use Rattle.ends.specs.declared.High.{High}
 use Rattle.ends.specs.declared.High.the-variants as high

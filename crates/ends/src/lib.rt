@@ -11,7 +11,7 @@ ghost use Prim.Native.Nat.{_*_, _≤_};
 ghost use lib.Dec.{leb};
 ghost use lib.ListN.{length};
 ghost use Rattle.tables.specs.Sheets.{sheet};
-ghost use Rattle.ends.specs.Ends.{endsRefusal, Outcome};
+ghost use Rattle.calls.specs.Ends.{endsRefusal, Outcome};
 ghost use Rattle.ends.specs.Answers.{answer, FindReady, LowReady, HighReady, HighFound};
 
 // The highest cycle time: none, or a fraction in lowest terms.

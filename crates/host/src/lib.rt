@@ -6,9 +6,9 @@ use reader::Read;
 ghost use mathlib.Core.Path.{_≡_};
 ghost use lib.ListN.{length};
 ghost use Rattle.tables.specs.Sheets.{sheet, refusal};
-ghost use Rattle.ask.specs.Ask.{timed, number};
+ghost use Rattle.calls.specs.Ask.{timed, number};
 ghost use Rattle.ask.specs.Answers.{answer};
-ghost use Rattle.host.specs.Host.{Answers, Verdict};
+ghost use Rattle.calls.specs.Host.{Answers, Verdict};
 
 // The number of Ask's answer.
 fn number_of(asked: Asked) -> u32

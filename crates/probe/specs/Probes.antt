@@ -5,10 +5,10 @@ use Prim.Native.Nat.{ℕ}
 use lib.IntN.{ℤ}
 use lib.Seq.{sets}
 use Rattle.tables.specs.Sheets.{Sheet}
-use Rattle.ask.specs.Ask as ask
+use Rattle.calls.specs.Ask as ask
 use Rattle.ask.specs.Answers as asked-answers
 use Rattle.ask.specs.declared.Asked.{Asked}
-use Rattle.ends.specs.Ends as ends
+use Rattle.calls.specs.Ends as ends
 use Rattle.ends.specs.Answers as ended-answers
 use Rattle.ends.specs.declared.Ended.{Ended}
 use Rattle.report.specs.Report as report

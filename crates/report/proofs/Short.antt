@@ -20,9 +20,9 @@ use Rattle.windows.specs.Circuits.{Step, Valid, AllValid, CircuitOf}
 use Rattle.windows.proofs.Laying.{node-inside}
 use Rattle.windows.proofs.Limits.{number-small, nodes-few}
 use Rattle.windows.proofs.Listed.{each-more}
-use Rattle.ask.specs.Ask.{Earliest}
-use Rattle.ask.proofs.Bounds.{plan-small}
-use Rattle.ends.specs.Ends.{Holds}
+use Rattle.calls.specs.Ask.{Earliest}
+use Rattle.calls.proofs.Ask.Bounds.{plan-small}
+use Rattle.calls.specs.Ends.{Holds}
 use Rattle.lines.specs.Lines.{low-word, high-word, first-word, second-word, refused-word, none-word, ends-word, plan-word, following, line, fraction, highSpelled, arcLine, circuitLines, highLines, numbersLine, timesAt, planLines}
 use Rattle.telling.specs.Tells.{TellsEnds, TellsNone, Tells}
 use Rattle.report.specs.Report.{room}

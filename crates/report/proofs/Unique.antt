@@ -23,8 +23,8 @@ use Rattle.windows.specs.Arcs.{node, nodes, arcs, oneTo, each}
 use Rattle.windows.proofs.Listed.{each-more}
 use Rattle.windows.specs.Circuits.{Step}
 use Rattle.windows.proofs.Laying.{node-inside}
-use Rattle.ask.specs.Ask.{Earliest}
-use Rattle.ask.proofs.Unique.{plan-table}
+use Rattle.calls.specs.Ask.{Earliest}
+use Rattle.calls.proofs.Ask.Unique.{plan-table}
 use Rattle.lines.specs.Lines.{ends-word, low-word, none-word, first-word, second-word, plan-word, line, fraction, highSpelled, circuitLines, highLines, numbersLine, timesAt, planLines}
 use Rattle.telling.specs.Tells.{TellsEnds, TellsNone, Tells}
 use Rattle.report.specs.Report.{judged, Reports, room, Answer, number, Outcome}

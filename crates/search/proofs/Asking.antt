@@ -12,12 +12,12 @@ use Rattle.windows.specs.Circuits.{numbers, stepsIn}
 use Rattle.windows.proofs.Endless.{meaning}
 use Rattle.windows.proofs.Limits.{nodes-few}
 use Rattle.windows.proofs.Numbers.{numbers-length}
-use Rattle.ask.specs.Ask as ask
-use Rattle.ask.specs.Ask.{askRefusal, Shows}
+use Rattle.calls.specs.Ask as ask
+use Rattle.calls.specs.Ask.{askRefusal, Shows}
 use Rattle.ask.specs.Answers.{answer}
 use Rattle.ask.specs.declared.Asked.{Asked}
 use Rattle.ask.specs.declared.Asked.the-variants as asked
-use Rattle.ask.proofs.Room.{unrefused}
+use Rattle.calls.proofs.Ask.Room.{unrefused}
 use Rattle.search.specs.Climbs.{Beats}
 use Rattle.search.specs.Searches.{Ready, Asks, Judged, Stands}
 use Rattle.limits.specs.declared.Weight.{Weight}

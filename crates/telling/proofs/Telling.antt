@@ -25,13 +25,13 @@ use Rattle.windows.specs.Arcs.{nodes, arcs}
 use Rattle.windows.specs.Circuits.{Step, numbers, CircuitOf}
 use Rattle.windows.proofs.Limits.{nodes-few, sheet-laid}
 use Rattle.windows.proofs.Steps.{never-both}
-use Rattle.ask.specs.Ask as ask
+use Rattle.calls.specs.Ask as ask
 use Rattle.ask.specs.Answers as asked-answers
 use Rattle.ask.specs.declared.Asked.{Asked}
 use Rattle.ask.specs.declared.Asked.the-variants as asked
-use Rattle.ask.proofs.Room as ask-room
-use Rattle.ends.specs.Ends as ends
-use Rattle.ends.specs.Ends.{Holds, Finds, Lacks}
+use Rattle.calls.proofs.Ask.Room as ask-room
+use Rattle.calls.specs.Ends as ends
+use Rattle.calls.specs.Ends.{Holds, Finds, Lacks}
 use Rattle.ends.specs.Answers as ended-answers
 use Rattle.ends.specs.declared.Ended.{Ended}
 use Rattle.ends.specs.declared.Ended.the-variants as ended

@@ -9,8 +9,8 @@ use Rattle.theory.specs.Ends.{High}
 use Rattle.tables.specs.Sheets.{Sheet, refusal}
 use Rattle.windows.specs.Inequalities.{Runs}
 use Rattle.windows.specs.Arcs.{nodes, arcs}
-use Rattle.ask.specs.Ask.{Earliest}
-use Rattle.ends.specs.Ends.{Finds}
+use Rattle.calls.specs.Ask.{Earliest}
+use Rattle.calls.specs.Ends.{Finds}
 use Rattle.lines.specs.Lines.{planLines}
 
 -- a text that says so stands in the buffer, from its start

@@ -9,8 +9,8 @@ use Rattle.tables.specs.Sheets.{Sheet}
 use Rattle.sheet.specs.File.{Part}
 use Rattle.sheet.specs.File as file
 use Rattle.windows.specs.Arcs.{nodes, arcs}
-use Rattle.ask.specs.Ask.{Earliest}
-use Rattle.ends.specs.Ends.{Finds, Lacks}
+use Rattle.calls.specs.Ask.{Earliest}
+use Rattle.calls.specs.Ends.{Finds, Lacks}
 use Rattle.lines.specs.Lines.{ends-word, low-word, none-word, first-word, second-word, line, fraction, highSpelled, circuitLines, highLines, planLines, refusedLine}
 
 module _ (s : Sheet) where

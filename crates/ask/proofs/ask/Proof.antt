@@ -7,9 +7,9 @@ use borrow.Author.Tests.{not-true, not-false}
 use Rattle.tables.specs.Sheets.{Sheet, sheet, refusal}
 use Rattle.tables.proofs.Laws.{accepted}
 use Rattle.windows.proofs.Limits.{nodes-few}
-use Rattle.ask.specs.Ask.{timed, askRefusal}
+use Rattle.calls.specs.Ask.{timed, askRefusal}
 use Rattle.ask.specs.Answers.{answer}
-use Rattle.ask.proofs.Refusals.{refused-sheet, refused-10, refused-9, refused-none}
+use Rattle.calls.proofs.Ask.Refusals.{refused-sheet, refused-10, refused-9, refused-none}
 use Rattle.ask.proofs.Deciding.{outcome}
 use borrow.Author.Needs.{needs}
 use Rattle.ask.proofs.ask.Statement.{statement}

@@ -8,7 +8,8 @@ use Rattle.layout.proofs.Laying.{modes}
 use Rattle.turns.specs.Rounds.{Posed}
 use Rattle.turns.proofs.Sheets.{parts}
 use Rattle.ask.specs.Answers.{answer}
-use Rattle.ask.proofs.Refusals.{Granted, granted, limits}
+use Rattle.calls.proofs.Ask.Refusals.{Granted, granted}
+use Rattle.ask.proofs.Posing.{limits}
 use Rattle.ask.proofs.Deciding.{ends, settles}
 use borrow.Author.Needs.{needs}
 use Rattle.ask.proofs.solve.Statement.{statement}

@@ -6,7 +6,7 @@ use borrow.Author.Tests.{not-true, not-false}
 use Rattle.tables.specs.Sheets.{Sheet, sheet, refusal}
 use Rattle.tables.proofs.Laws.{accepted}
 use Rattle.windows.proofs.Limits.{nodes-few}
-use Rattle.ends.proofs.Finishing.{refused-sheet, refused-9, refused-none}
+use Rattle.calls.proofs.Ends.Refusals.{refused-sheet, refused-9, refused-none}
 use borrow.Author.Needs.{needs}
 use Rattle.ends.proofs.ends.Statement.{statement}
 use Rattle.ends.proofs.ends.Tie as tie

@@ -1,12 +1,11 @@
 -- `host::judge` meets its contract: the sheet handed on is the one that the bytes are read as.
-use mathlib.Core.Path.{refl, sym, subst}
+use mathlib.Core.Path.{sym}
 use native.Mathlib.Omega.{arith}
 use lib.Seq.{length-take-le}
 use Rattle.tables.specs.Sheets.{Sheet}
 use Rattle.tables.proofs.Laws.{square}
 use Rattle.reader.proofs.Leaves.{Leaves, leaves-admitted, leaves-sizes, leaves-few, read-leaves, read-refused}
-use Rattle.sheet.specs.File.{Part}
-use Rattle.host.specs.Host.{AnswersPart}
+use Rattle.calls.proofs.Host.Asking.{refused-first, read-answered}
 use borrow.Author.Needs.{needs}
 use Rattle.host.proofs.judge.Statement.{statement}
 use Rattle.host.proofs.judge.Tie as tie
@@ -65,7 +64,7 @@ same-length-2 c = search needs
 
 returns : tie.Need-returns
 returns c = let r = c .before .before .before .before .before .before in let s = r .before .before .before .before .before in let k = c .before .read .given .0 .0 in
-    subst (λ (x : Part Sheet). AnswersPart x (s .args .p) (s .args .q) k) (sym (read-refused _ _ _ (s .pre .0) (s .pre .1) (r .read-sheet .result) _ _ _ (c .before .read .given .1) (r .read-sheet .ensures))) refl
+    refused-first _ (s .args .p) (s .args .q) k (read-refused _ _ _ (s .pre .0) (s .pre .1) (r .read-sheet .result) _ _ _ (c .before .read .given .1) (r .read-sheet .ensures))
 
 same-length-3 : tie.Need-same-length-3
 same-length-3 c = search needs
@@ -75,7 +74,7 @@ same-length-4 c = search needs
 
 returns-2 : tie.Need-returns-2
 returns-2 c = let s = c .before .before .before .before .before .before .before .before .before .before .before .before .before .before in
-    subst (λ (x : Part Sheet). AnswersPart x (s .args .p) (s .args .q) (c .decide .result)) (sym (leaves (c .before .before .before) .is)) (c .decide .ensures)
+    read-answered _ _ _ (s .args .p) (s .args .q) (c .decide .result) (leaves (c .before .before .before) .is) (c .decide .ensures)
 
 pub judge-spec : {M : Type 1} → statement M
 judge-spec =

@@ -1,6 +1,6 @@
 -- `host::number_of` meets its contract: in each case the number is that of the answer.
 use mathlib.Core.Path.{sym, ap}
-use Rattle.ask.specs.Ask.{number}
+use Rattle.calls.specs.Ask.{number}
 use Rattle.ask.specs.Answers.{answer}
 use Rattle.ask.specs.declared.Asked.{Asked}
 use borrow.Author.Needs.{needs}

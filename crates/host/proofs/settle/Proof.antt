@@ -1,10 +1,10 @@
 -- `host::settle` meets its contract: the number of the outcome of Ask.
 use mathlib.Core.Path.{sym, subst}
 use Rattle.ask.specs.Answers.{answer}
-use Rattle.ask.specs.Ask.{timed}
+use Rattle.calls.specs.Ask.{timed}
 use Rattle.tables.specs.Sheets.{sheet}
-use Rattle.host.specs.Host.{Answers}
-use Rattle.host.proofs.Asking.{answers}
+use Rattle.calls.specs.Host.{Answers}
+use Rattle.calls.proofs.Host.Asking.{answers}
 use borrow.Author.Needs.{needs}
 use Rattle.host.proofs.settle.Statement.{statement}
 use Rattle.host.proofs.settle.Tie as tie

@@ -22,8 +22,8 @@ use Rattle.windows.proofs.Parts.{le-parts}
 use Rattle.windows.proofs.Endless.{onwards, plan-iff, plan-solves, onwards-from-zero}
 use Rattle.windows.proofs.Laying.{arcs-within}
 use Rattle.windows.proofs.Steps.{never-both}
-use Rattle.ask.specs.Ask as ask
-use Rattle.ask.specs.Ask.{Answer, number, askRefusal, Earliest, Accepts, Outcome}
+use Rattle.calls.specs.Ask as ask
+use Rattle.calls.specs.Ask.{Answer, number, askRefusal, Earliest, Accepts, Outcome}
 
 -- a first refusal of 0 leaves the sheet admitted
 pub otherwise-none : (a b : ℕ) → otherwise a b ≡ 0 → a ≡ 0

@@ -1,5 +1,6 @@
+-- The verdict, by what the file was read as: a refused file has its own number, and of a sheet Ask's answer counts.
 -- What Ask answers of an admitted sheet, in room for 192 nodes, is the verdict: only p and q can be refused.
-use mathlib.Core.Path.{_≡_, refl, sym, _∙_}
+use mathlib.Core.Path.{_≡_, refl, sym, _∙_, subst}
 use mathlib.Core.Logic.{_⊎_, inl, inr}
 use mathlib.Core.Bool.{Bool, true, false}
 use mathlib.Core.List.{List}
@@ -8,11 +9,12 @@ use native.Mathlib.Omega.{arith}
 use lib.ListN.{length}
 use Rattle.tables.specs.Sheets.{Sheet, refusal, unless}
 use Rattle.tables.proofs.Laws.{Admitted, accepted}
+use Rattle.sheet.specs.File.{Part, got, refused, sheetIn}
 use Rattle.windows.proofs.Steps.{never-both}
-use Rattle.ask.proofs.Room.{room}
-use Rattle.ask.specs.Ask as ask
-use Rattle.ask.specs.Ask.{Answer, Outcome, askRefusal, timed, number, planned}
-use Rattle.host.specs.Host.{Answers}
+use Rattle.calls.proofs.Ask.Room.{room}
+use Rattle.calls.specs.Ask as ask
+use Rattle.calls.specs.Ask.{Answer, Outcome, askRefusal, timed, number, planned}
+use Rattle.calls.specs.Host.{Answers, AnswersPart, Verdict}
 
 module _ (s : Sheet) (p q : ℕ) (plan₀ circuit₀ : List ℕ) (admitted : refusal s ≡ 0) where
   ok : Admitted s
@@ -32,3 +34,11 @@ module _ (s : Sheet) (p q : ℕ) (plan₀ circuit₀ : List ℕ) (admitted : ref
   -- THEOREM: the number of Ask's answer is the verdict on a sheet that was read
   pub answers : length plan₀ ≡ 192 → length circuit₀ ≡ 768 → (a : Answer) (plan circuit : List ℕ) → Outcome s p q plan₀ circuit₀ a plan circuit → Answers (timed p q) s p q (number a)
   answers long wide a plan circuit o = by-time (timed p q) a plan circuit (refusals long wide) o
+
+-- "1 to 8 first": a refused file has its own number, whatever p and q are
+pub refused-first : (file : List ℕ) (p q k : ℕ) → sheetIn file ≡ refused k → Verdict file p q k
+refused-first file p q k e = subst (λ (x : Part Sheet). AnswersPart x p q k) (sym e) refl
+
+-- a file that is read is answered as its sheet is
+pub read-answered : (file : List ℕ) (s : Sheet) (next p q r : ℕ) → sheetIn file ≡ got s next → Answers (timed p q) s p q r → Verdict file p q r
+read-answered file s next p q r e a = subst (λ (x : Part Sheet). AnswersPart x p q r) (sym e) a

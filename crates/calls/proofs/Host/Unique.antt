@@ -6,8 +6,8 @@ use mathlib.Core.List.{List}
 use Prim.Native.Nat.{ℕ}
 use Rattle.tables.specs.Sheets.{Sheet}
 use Rattle.sheet.specs.File.{Part, got, refused, sheetIn}
-use Rattle.ask.specs.Ask.{timed}
-use Rattle.host.specs.Host.{Answers, AnswersPart, Verdict}
+use Rattle.calls.specs.Ask.{timed}
+use Rattle.calls.specs.Host.{Answers, AnswersPart, Verdict}
 
 answers-same : (t : Bool) (s : Sheet) (p q a b : ℕ) → Answers t s p q a → Answers t s p q b → a ≡ b
 answers-same true s p q a b (inl x) (inl y) = x .0 ∙ sym (y .0)

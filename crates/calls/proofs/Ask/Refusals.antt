@@ -11,8 +11,7 @@ use lib.ListN.{length}
 use Rattle.tables.specs.Sheets.{Sheet, within, unless, refusal, otherwise}
 use Rattle.tables.proofs.Laws.{both, within-is, Admitted, accepted}
 use Rattle.windows.specs.Arcs.{nodes}
-use Rattle.turns.specs.Rounds.{Limits}
-use Rattle.ask.specs.Ask.{timed, roomy, askRefusal}
+use Rattle.calls.specs.Ask.{timed, roomy, askRefusal}
 
 passes : (a : ℕ) (b c : Bool) → otherwise a (unless b 10 (unless c 9 0)) ≡ 0 → (a ≡ 0) × (b ≡ true) × (c ≡ true)
 passes zero true true e = (refl, refl, refl)
@@ -41,11 +40,6 @@ module _ (s : Sheet) (p q : ℕ) (plan circuit : List ℕ) where
         plan-long = leb-true (nodes s) (length plan) (r .0);
         circuit-long = leb-true (4 * nodes s) (length circuit) (r .1);
       }
-
-  pub limits : Granted → Limits (s .n) (s .positions) p
-  limits g =
-      let z = g .sheet-ok .size in
-      record { some-events = z .some-events; few-events = z .few-events; some-positions = z .some-positions; few-positions = z .few-positions; p-small = g .p-small }
 
   pub refused-sheet : (k : ℕ) → k ≡ refusal s → k ≢ 0 → askRefusal s p q plan circuit ≡ k
   refused-sheet k e some = ap (λ (x : ℕ). otherwise x (unless (timed p q) 10 (unless (roomy s plan circuit) 9 0))) (sym e) ∙ go k some

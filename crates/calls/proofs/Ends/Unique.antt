@@ -10,7 +10,7 @@ use Rattle.theory.proofs.Fractions.{range-same, low-works}
 use Rattle.tables.specs.Sheets.{Sheet}
 use Rattle.windows.specs.Inequalities.{Runs}
 use Rattle.windows.specs.Circuits.{Step, numbers, stepArc}
-use Rattle.ends.specs.Ends.{Answer, found, none, refused, number, Holds, arcsIn, Outcome}
+use Rattle.calls.specs.Ends.{Answer, found, none, refused, number, Holds, arcsIn, Outcome}
 
 -- The two answers agree: the same number, and the same ends or the same refusal. Which circuits, and so their arc counts, is left open.
 abbrev pub Agree : Answer → Answer → Type 0

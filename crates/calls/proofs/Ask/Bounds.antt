@@ -14,8 +14,8 @@ use Rattle.tables.proofs.Laws.{Admitted}
 use Rattle.windows.specs.Arcs.{nodes, arcs}
 use Rattle.windows.proofs.Laying.{arcs-within}
 use Rattle.windows.proofs.Limits.{sheet-laid, nodes-few}
-use Rattle.ask.specs.Ask.{Earliest}
-use Rattle.ask.proofs.Unique.{plan-table}
+use Rattle.calls.specs.Ask.{Earliest}
+use Rattle.calls.proofs.Ask.Unique.{plan-table}
 
 -- THEOREM: no entry of a table up to round N-1 passes 382,000,000,000, for p and q within their limits
 pub table-small : (s : Sheet) → Admitted s → (p q : ℕ) → q ≤ 1000 → p ≤ 1000000000 → (r v : ℕ) → r < nodes s → table (arcs s) p q r v ≤ 382000000000

@@ -16,7 +16,7 @@ use Rattle.windows.specs.Arcs.{up, down, node, nodes, arcs}
 use Rattle.windows.proofs.Parts.{le-parts}
 use Rattle.windows.proofs.Endless.{plan-solves, solution-plan, timeAt, time-at, node-below, not-below}
 use Rattle.windows.proofs.Laying.{arcs-within}
-use Rattle.ask.specs.Ask.{planned, Earliest}
+use Rattle.calls.specs.Ask.{planned, Earliest}
 
 module _ (s : Sheet) (some : 0 < s .positions) (p q r : ℕ) (still : Still (arcs s) p q (nodes s) r) (plan : List ℕ)
     (same : (v : ℕ) → v < nodes s → getD plan v 0 ≡ table (arcs s) p q r v) where

@@ -1,0 +1,3 @@
+-- The C call: that Ask gives its answer, and that two verdicts are equal.
+pub mod Asking
+pub mod Unique
