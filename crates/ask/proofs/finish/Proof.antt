@@ -1,4 +1,5 @@
 -- Each branch writes by its callee's contract.
+use mathlib.Core.Path.{refl}
 use native.Mathlib.Omega.{arith}
 use borrow.Author.Needs.{needs}
 use Rattle.ask.proofs.finish.Statement.{statement}
@@ -17,7 +18,7 @@ same-length : tie.Need-same-length
 same-length c = search needs
 
 returns : tie.Need-returns
-returns c = search needs
+returns c = let w = c .before .before in (refl, w .before .before .before .before .if1 .taken, w .write-times .ensures, refl)
 
 refute-requires : tie.Need-refute-requires
 refute-requires c κs = let s = c .before .before .before .before .before in (s .pre .0 (c .before .if1 .left), s .pre .3)
@@ -26,7 +27,7 @@ same-length-2 : tie.Need-same-length-2
 same-length-2 c = search needs
 
 returns-2 : tie.Need-returns-2
-returns-2 c = search needs
+returns-2 c = let r = c .before .before in (r .before .before .if1 .left, r .refute .ensures, refl)
 
 pub finish-spec : {M : Type 1} → statement M
 finish-spec =
