@@ -46,9 +46,9 @@ fn circuit_room() -> [u8; 768]
 }
 
 // High, with the arc count of its circuit.
-pub struct Highest {
-    pub high: High,
-    pub arcs: usize,
+struct Highest {
+    high: High,
+    arcs: usize,
 }
 
 // Where low is known: finds high, and hands its circuit over, if there is one.

@@ -23,7 +23,7 @@ use Rattle.search.specs.Searches.{Ready, Asks, Judged, Stands}
 use Rattle.limits.specs.declared.Weight.{Weight}
 use Rattle.weights.specs.Weights.{weightsOf, Lists}
 use Rattle.search.specs.declared.Stand.{Stand}
-use Rattle.search.specs.declared.Verdict.the-variants as verdict
+use Rattle.search.specs.declared.Tried.the-variants as tried
 use Rattle.weights.proofs.Held.{count-few}
 use Rattle.search.proofs.Climbing.{beats-lists}
 
@@ -75,7 +75,7 @@ stands-ready s at low found h =
 
 -- the answer, with the sums of the circuit that refutes
 module _ (s : Sheet) (at : Stand) (found₀ : List ℕ) (r : Ready s at found₀) (a : Asked) (found : List ℕ) (answered : Asks s at a found) where
-  pub judged-works : (rounds : ℕ) → a ≡ asked.Accepted rounds → Judged s at verdict.Works found
+  pub judged-works : (rounds : ℕ) → a ≡ asked.Accepted rounds → Judged s at tried.Works found
   judged-works rounds e = subst (λ (x : Asked). Asks s at x found) e answered
 
   pub judged-never : (k : ℕ) → a ≡ asked.Refused k → ⊥
@@ -84,5 +84,5 @@ module _ (s : Sheet) (at : Stand) (found₀ : List ℕ) (r : Ready s at found₀
   pub judged-lists : (count : ℕ) → a ≡ asked.Refuted count → Lists s found count
   judged-lists count e = beats-lists s (r .admitted) (at .top) (at .bottom) found count (subst (λ (x : Asked). Asks s at x found) e answered .0)
 
-  pub judged-above : (count : ℕ) → a ≡ asked.Refuted count → (w : Weight) → w ≡ weightsOf s (stepsIn found count) → Judged s at (verdict.Above w count) found
+  pub judged-above : (count : ℕ) → a ≡ asked.Refuted count → (w : Weight) → w ≡ weightsOf s (stepsIn found count) → Judged s at (tried.Above w count) found
   judged-above count e w weighed = let o = subst (λ (x : Asked). Asks s at x found) e answered in (o .0, weighed, o .1)

@@ -18,8 +18,8 @@ use Rattle.search.specs.Copies.{Fits}
 use Rattle.search.specs.Climbs.{HighHeld, heldArcs}
 use Rattle.search.specs.Searches.{Judged, Turns, Falls, Hangs, HighStands, Rests, Overhead}
 use Rattle.search.specs.declared.Stand.{Stand}
-use Rattle.search.specs.declared.Verdict.{Verdict}
-use Rattle.search.specs.declared.Verdict.the-variants as verdict
+use Rattle.search.specs.declared.Tried.{Tried}
+use Rattle.search.specs.declared.Tried.the-variants as tried
 use Rattle.search.proofs.Copies.{copied-length}
 use Rattle.search.proofs.Climbing.{beats-fits, high-ready, high-on}
 
@@ -48,12 +48,12 @@ high-stands s at next high₀ found₀ high found h held room room′ =
       held = held;
     }
 
-pub fall-works : (s : Sheet) (at : Stand) (v : Verdict) (found : List ℕ) → Judged s at v found → v ≡ verdict.Works → Works (arcs s) (at .top) (at .bottom) × (length found ≡ 768)
-fall-works s at v found judged e = subst (λ (x : Verdict). Judged s at x found) e judged
+pub fall-works : (s : Sheet) (at : Stand) (v : Tried) (found : List ℕ) → Judged s at v found → v ≡ tried.Works → Works (arcs s) (at .top) (at .bottom) × (length found ≡ 768)
+fall-works s at v found judged e = subst (λ (x : Tried). Judged s at x found) e judged
 
-module _ (s : Sheet) (at : Stand) (high₀ found₀ : List ℕ) (h : Hangs s at high₀ found₀) (v : Verdict) (found : List ℕ) (judged : Judged s at v found) (w : Weight) (count : ℕ) (e : v ≡ verdict.Above w count) where
-  above-zero : Judged s at (verdict.Above w count) found
-  above-zero = subst (λ (x : Verdict). Judged s at x found) e judged
+module _ (s : Sheet) (at : Stand) (high₀ found₀ : List ℕ) (h : Hangs s at high₀ found₀) (v : Tried) (found : List ℕ) (judged : Judged s at v found) (w : Weight) (count : ℕ) (e : v ≡ tried.Above w count) where
+  above-zero : Judged s at (tried.Above w count) found
+  above-zero = subst (λ (x : Tried). Judged s at x found) e judged
 
   pub fall-asks : Turns w × Fits count found high₀
   fall-asks = (
@@ -68,8 +68,8 @@ module _ (s : Sheet) (at : Stand) (high₀ found₀ : List ℕ) (h : Hangs s at 
       let room : length high ≡ 768 = ap length (f .2) ∙ copied-length found (4 * count) high₀ (fall-asks .1 .1) (fall-asks .1 .2) ∙ h .high-room in
       (high-stands s at next high₀ found₀ high found h held room (above-zero .2), on .1)
 
-module _ (s : Sheet) (at : Stand) (high₀ found₀ : List ℕ) (h : HighStands s at high₀ found₀) (v : Verdict) (found : List ℕ) (judged : Judged s at v found) where
-  pub descend-next : (w : Weight) (count : ℕ) → v ≡ verdict.Above w count → (next : Stand) (high : List ℕ) → Falls w found count high₀ next high
+module _ (s : Sheet) (at : Stand) (high₀ found₀ : List ℕ) (h : HighStands s at high₀ found₀) (v : Tried) (found : List ℕ) (judged : Judged s at v found) where
+  pub descend-next : (w : Weight) (count : ℕ) → v ≡ tried.Above w count → (next : Stand) (high : List ℕ) → Falls w found count high₀ next high
       → HighStands s next high found × (toDescend s next < toDescend s at)
   descend-next w count e next high f =
       let n = fall-next s at high₀ found₀ (h .hangs) v found judged w count e next high f in
@@ -79,7 +79,7 @@ module _ (s : Sheet) (at : Stand) (high₀ found₀ : List ℕ) (h : HighStands 
             (heldArcs s (h .held .held)) (next .top) (next .bottom) (heldArcs s (n .0 .held .held)) (h .held .top-is) (n .0 .held .top-is) (n .1),
       )
 
-  pub descend-rests : v ≡ verdict.Works → Rests s at high₀ found
+  pub descend-rests : v ≡ tried.Works → Rests s at high₀ found
   descend-rests e = let o = fall-works s at v found judged e in record { works = o .0; held = h .held; high-room = h .hangs .high-room; found-room = o .1 }
 
 -- above every limit

@@ -18,8 +18,8 @@ use Rattle.search.specs.Copies.{copied, Fits}
 use Rattle.search.specs.Climbs.{LowHeld, NoneHeld, heldArcs}
 use Rattle.search.specs.Searches.{Judged, Gains, Rises, Stands, Fresh, Climbs}
 use Rattle.search.specs.declared.Stand.{Stand}
-use Rattle.search.specs.declared.Verdict.{Verdict}
-use Rattle.search.specs.declared.Verdict.the-variants as verdict
+use Rattle.search.specs.declared.Tried.{Tried}
+use Rattle.search.specs.declared.Tried.the-variants as tried
 use Rattle.search.specs.declared.Rise.{Rise}
 use Rattle.search.specs.declared.Rise.the-variants as rise
 use Rattle.search.specs.declared.Climbed.the-variants as climbed
@@ -58,15 +58,15 @@ fresh-stands s low found f =
 abbrev pub toClimb : Sheet → Stand → ℕ
 toClimb s at = left-to-climb (nodes s * 1000000) (s .n) (at .top) (at .bottom)
 
-module _ (s : Sheet) (at : Stand) (low₀ found₀ : List ℕ) (h : Stands s at low₀ found₀) (v : Verdict) (found : List ℕ) (judged : Judged s at v found) where
-  pub climbed-low : v ≡ verdict.Works → Climbs s (climbed.Low at) low₀ found
+module _ (s : Sheet) (at : Stand) (low₀ found₀ : List ℕ) (h : Stands s at low₀ found₀) (v : Tried) (found : List ℕ) (judged : Judged s at v found) where
+  pub climbed-low : v ≡ tried.Works → Climbs s (climbed.Low at) low₀ found
   climbed-low e =
-      let o = subst (λ (x : Verdict). Judged s at x found) e judged in
+      let o = subst (λ (x : Tried). Judged s at x found) e judged in
       (o .0, record { admitted = h .admitted; held = h .held; low-room = h .low-room; found-room = o .1 })
 
-  module _ (w : Weight) (count : ℕ) (e : v ≡ verdict.Above w count) where
-    above : Judged s at (verdict.Above w count) found
-    above = subst (λ (x : Verdict). Judged s at x found) e judged
+  module _ (w : Weight) (count : ℕ) (e : v ≡ tried.Above w count) where
+    above : Judged s at (tried.Above w count) found
+    above = subst (λ (x : Tried). Judged s at x found) e judged
 
     fits : Fits count found low₀
     fits = beats-fits s (h .admitted) (at .top) (at .bottom) found count (above .0) (above .2) low₀ (h .low-room)

@@ -14,8 +14,8 @@ use Rattle.ask.specs.declared.Asked.the-variants as asked
 use Rattle.limits.specs.declared.Weight.{Weight}
 use Rattle.weights.specs.Weights.{weightsOf}
 use Rattle.search.specs.declared.Stand.{Stand}
-use Rattle.search.specs.declared.Verdict.{Verdict}
-use Rattle.search.specs.declared.Verdict.the-variants as verdict
+use Rattle.search.specs.declared.Tried.{Tried}
+use Rattle.search.specs.declared.Tried.the-variants as tried
 use Rattle.search.specs.declared.Rise.{Rise}
 use Rattle.search.specs.declared.Rise.the-variants as rise
 use Rattle.search.specs.declared.Climbed.{Climbed}
@@ -40,9 +40,9 @@ Asks s at (asked.Refuted count) found = Beats s (at .top) (at .bottom) found cou
 Asks s at (asked.Refused k) found = ⊥
 
 -- what is found there: it works, or the circuit in the buffer is above zero, with its sums
-abbrev pub Judged : Sheet → Stand → Verdict → List ℕ → Type 0
-Judged s at verdict.Works found = Works (arcs s) (at .top) (at .bottom) × (length found ≡ 768)
-Judged s at (verdict.Above w count) found = Beats s (at .top) (at .bottom) found count × (w ≡ weightsOf s (stepsIn found count)) × (length found ≡ 768)
+abbrev pub Judged : Sheet → Stand → Tried → List ℕ → Type 0
+Judged s at tried.Works found = Works (arcs s) (at .top) (at .bottom) × (length found ≡ 768)
+Judged s at (tried.Above w count) found = Beats s (at .top) (at .bottom) found count × (w ≡ weightsOf s (stepsIn found count)) × (length found ≡ 768)
 
 -- a circuit of c below 0 that is above zero somewhere has W at least 0
 abbrev pub Gains : Weight → Type 0

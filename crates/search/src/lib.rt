@@ -27,7 +27,7 @@ pub struct Stand {
 }
 
 // What is found where the search stands: it works, or a circuit is above zero there, with its sums and its arc count.
-pub enum Verdict {
+enum Tried {
     Works,
     Above { weight: Weight, arcs: usize },
 }
@@ -75,23 +75,23 @@ fn judge_at(
     schedule: &[u8],
     at: Stand,
     found: &mut [u8],
-) -> Verdict
+) -> Tried
     requires { ⌜ Ready (sheet n m positions (now tables) (now schedule)) at (now found) ⌝ }
     ensures { λ r. ⌜ Judged (sheet n m positions (now (tables .entry)) (now (schedule .entry))) at r (now (found .exit)) ⌝ }
 {
     match ask_at(n, m, positions, tables, schedule, at, found) {
-        Asked::Accepted { rounds: _ } => Verdict::Works,
-        Asked::Refused { number: _ } => Verdict::Works,
+        Asked::Accepted { rounds: _ } => Tried::Works,
+        Asked::Refused { number: _ } => Tried::Works,
         Asked::Refuted { arcs: count } => {
             let arcs = count as usize;
             let weight = weigh(n, m, positions, tables, schedule, found, arcs);
-            Verdict::Above { weight, arcs }
+            Tried::Above { weight, arcs }
         }
     }
 }
 
 // What a circuit above zero does to the climb: on to its limit, or nothing works, as the first circuit shows, alone or with the second.
-pub enum Rise {
+enum Rise {
     On(Stand),
     None { first: usize, second: usize },
 }
@@ -146,10 +146,10 @@ pub fn climb(
     };
     loop {
         match judge_at(n, m, positions, tables, schedule, at, found) {
-            Verdict::Works => {
+            Tried::Works => {
                 return Climbed::Low(at);
             }
-            Verdict::Above { weight, arcs } => match climb_by(weight, at.arcs, found, arcs, low) {
+            Tried::Above { weight, arcs } => match climb_by(weight, at.arcs, found, arcs, low) {
                 Rise::On(next) => {
                     at = next;
                 }
@@ -192,10 +192,10 @@ fn descend_from(
     let mut at = from;
     loop {
         match judge_at(n, m, positions, tables, schedule, at, found) {
-            Verdict::Works => {
+            Tried::Works => {
                 return at;
             }
-            Verdict::Above { weight, arcs } => {
+            Tried::Above { weight, arcs } => {
                 at = descend_by(weight, found, arcs, high);
             }
         }
@@ -228,8 +228,8 @@ pub fn descend(
         arcs: 0,
     };
     match judge_at(n, m, positions, tables, schedule, above, found) {
-        Verdict::Works => Descended::Open,
-        Verdict::Above { weight, arcs } => {
+        Tried::Works => Descended::Open,
+        Tried::Above { weight, arcs } => {
             let next = descend_by(weight, found, arcs, high);
             Descended::High(descend_from(n, m, positions, tables, schedule, next, high, found))
         }
