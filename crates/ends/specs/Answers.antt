@@ -5,7 +5,7 @@ use Prim.Native.Nat.{ℕ, _*_, _≤_}
 use lib.ListN.{length}
 use Rattle.theory.specs.Arcs.{Arc, Works}
 use Rattle.theory.specs.Ends as theory
-use Rattle.theory.proofs.Found.{Low}
+use Rattle.theory.specs.Found.{Low}
 use Rattle.tables.specs.Sheets.{Sheet, refusal}
 use Rattle.windows.specs.Inequalities.{Runs}
 use Rattle.windows.specs.Arcs.{nodes, arcs}

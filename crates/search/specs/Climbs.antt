@@ -7,7 +7,7 @@ use lib.ListN.{length}
 use Rattle.theory.specs.Arcs.{Arc, Works}
 use Rattle.theory.specs.Circuits.{Above}
 use Rattle.theory.specs.Ends.{AtMost, NoneShown}
-use Rattle.theory.proofs.Found.{Low, Top}
+use Rattle.theory.specs.Found.{Low, Top}
 use Rattle.tables.specs.Sheets.{Sheet}
 use Rattle.windows.specs.Arcs.{nodes, arcs}
 use Rattle.windows.specs.Circuits.{Step, numbers, stepArc, CircuitOf}

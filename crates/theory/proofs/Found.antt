@@ -10,36 +10,11 @@ use native.Mathlib.Decide.{decLe, decLt}
 use Rattle.theory.specs.Arcs.{Arc, Works}
 use Rattle.theory.specs.Circuits.{Circuit, Above, Zero, Refuted, ups, downs, forths, backs, Falling, Climbing, Level, Gaining}
 use Rattle.theory.specs.Ends.{AtMost, Under, Lowest, High, open-end, up-to, Range, Never, LowShown, at-zero, above-zero, HighShown, no-limit, limit, Clash, NoneShown, single, double}
+use Rattle.theory.specs.Found.{Least, Most, Low, Top}
 use Rattle.theory.proofs.Loops.{works-or-refuted}
 use Rattle.theory.proofs.Slopes.{LowLimit, HighLimit, total-rise, total-fall, split, between, upwards, climbing-loses, over-climbs, falling-gains, climb, descend, single-clash, double-clash, low-bound, high-bound, zero-low, zero-high}
 use Rattle.theory.proofs.Sums.{Laid, backs-few, forths-few, ups-few, downs-few, big-falls}
 use Rattle.theory.proofs.Fractions.{lowest-least, reduce, floors, floors-rise, left-to-climb, climb-falls}
-
--- every cycle time that works is at least a/b; at most c/d
-abbrev pub Least : List Arc → ℕ → ℕ → Type 0
-Least arcs a b = (p q : ℕ) → Works arcs p q → AtMost a b p q
-
-abbrev pub Most : List Arc → ℕ → ℕ → Type 0
-Most arcs c d = (p q : ℕ) → Works arcs p q → AtMost p q c d
-
-module _ (N B K : ℕ) (arcs : List Arc) where
-  -- where the climb stands: nothing that works is below a/b, and the circuit c shows it
-  pub record Low (a b : ℕ) (c : List Arc) : Type 0 where
-    pub positive : 0 < b
-    pub lowest : Lowest a b
-    pub small : a ≤ N * B
-    pub few : b ≤ K
-    pub least : Least arcs a b
-    pub shown : LowShown arcs b a c
-
-  -- where the descent stands: nothing that works is above a/b, and the circuit c shows it
-  pub record Top (a b : ℕ) (c : List Arc) : Type 0 where
-    pub positive : 0 < b
-    pub lowest : Lowest a b
-    pub small : a ≤ N * B
-    pub few : b ≤ K
-    pub most : Most arcs a b
-    pub shown : HighShown arcs (up-to a b) c
 
 -- THEOREM: circuits that show "none" leave no cycle time
 pub none-never : (arcs : List Arc) (c d : List Arc) → NoneShown arcs c d → Never (Works arcs)

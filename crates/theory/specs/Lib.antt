@@ -1,3 +1,4 @@
 pub mod Arcs
 pub mod Circuits
 pub mod Ends
+pub mod Found
