@@ -5,7 +5,7 @@
 use mathlib.Core.Path.{_≡_, refl, sym, ap, _∙_, subst}
 use mathlib.Core.Bool.{Bool}
 use Prim.Native.Nat.{ℕ, zero, suc, _<_, _≤_, _+_, _-_, _*_, _^_}
-use mathlib.Core.List.{List, [], _∷_}
+use mathlib.Core.List.{List, [], _∷_, _++_}
 use native.Mathlib.Omega.{arith}
 use lib.Dec.{lit<}
 use lib.ListN.{length, getD, take}
@@ -56,6 +56,7 @@ use Rattle.turns.specs.declared.Turn.{Turn}
 use Rattle.turns.specs.Rounds.{named as arc, Board, board, raise, after, passed, Able}
 use Rattle.turns.proofs.Folds.{pass-none, pass-more, pass-all, able-same}
 use Rattle.turns.proofs.Tables.{after-long}
+use Rattle.walk.proofs.Aside.{aside, unaside}
 use Rattle.walk.proofs.Again.{LentAgain, lends-again, comes-back}
 use Rattle.turns.proofs.Turn as TT
 use Rattle.turns.proofs.Turn.Laws as TT′
@@ -253,22 +254,83 @@ module _ {M : Type 1} (𝓤 : URA M) (H : Heap 𝓤) (A : Atoms 𝓤) (W : Given
       En = (tyUnit, l₀) ∷ (ty₁, l₁) ∷ (TT′.mir, l₂) ∷ (ty₃, l₃) ∷ (ty₄, l₄) ∷ (ty₅, l₅) ∷ (word, l₆) ∷ (word, l₇) ∷ (tyBool, l₈) ∷ (tyUnit, l₉) ∷ (tyPtr, l₁₀) ∷ (T′.mir, l₁₁) ∷ (ty₁₂, l₁₂) ∷ (ty₁₃, l₁₃) ∷ (ty₁₄, l₁₄) ∷ (ty₁₅, l₁₅) ∷ []
 
       abbrev At : ℕ → List (Item 𝓤)
-      At i = ‵ (row R q′ ws b o) ∷ ‵ (froom ty₁₅ l₁₅ 0) ∷ ‵ (froom ty₁₄ l₁₄ 0) ∷ ‵ (froom ty₁₃ l₁₃ 0) ∷ ‵ (froom ty₁₂ l₁₂ 0) ∷ ‵ (froom T′.mir l₁₁ 0) ∷ ‵ (froom tyPtr l₁₀ 0) ∷ ‵ (froom tyUnit l₉ 0) ∷ ‵ (froom tyBool l₈ 0) ∷ ‵ (froom word l₇ 0) ∷ ‵ (fat fullShare word l₆ 0 (vint w64 i)) ∷ ‵ (fat fullShare ty₅ l₅ 0 v₄) ∷ ‵ (fat fullShare ty₄ l₄ 0 v₃) ∷ ‵ (fat fullShare ty₃ l₃ 0 v₂) ∷ ‵ (fat fullShare TT′.mir l₂ 0 v₁) ∷ ‵ (fat fullShare ty₁ l₁ 0 v₀) ∷ ‵ (froom tyUnit l₀ 0) ∷ ‵ (fobor κ₀ q₀ (arr-parts (shares R) n .part q′ ws b o)) ∷ ‵ Old ∷ ‵ (New (D i .times) (length (new .now))) ∷ ‵ (Marks (D i .marks) (length (marks .now))) ∷ ‵ (flft κ₁ q₁) ∷ ‵ (flft κ₂ q₂) ∷ ‵ (flft κ₃ q₃) ∷ ‵ (fdies tyUnit l₀) ∷ ‵ (fdies ty₁ l₁) ∷ ‵ (fdies TT′.mir l₂) ∷ ‵ (fdies ty₃ l₃) ∷ ‵ (fdies ty₄ l₄) ∷ ‵ (fdies ty₅ l₅) ∷ ‵ (fdies word l₆) ∷ ‵ (fdies word l₇) ∷ ‵ (fdies tyBool l₈) ∷ ‵ (fdies tyUnit l₉) ∷ ‵ (fdies tyPtr l₁₀) ∷ ‵ (fdies T′.mir l₁₁) ∷ ‵ (fdies ty₁₂ l₁₂) ∷ ‵ (fdies ty₁₃ l₁₃) ∷ ‵ (fdies ty₁₄ l₁₄) ∷ ‵ (fdies ty₁₅ l₁₅) ∷ []
+      At i = ‵ (row R q′ ws b o) ∷ ‵ (froom ty₁₅ l₁₅ 0) ∷ ‵ (froom ty₁₄ l₁₄ 0) ∷ ‵ (froom ty₁₃ l₁₃ 0) ∷ ‵ (froom ty₁₂ l₁₂ 0) ∷ ‵ (froom T′.mir l₁₁ 0) ∷ ‵ (froom tyPtr l₁₀ 0) ∷ ‵ (froom tyUnit l₉ 0) ∷ ‵ (froom tyBool l₈ 0) ∷ ‵ (froom word l₇ 0) ∷ ‵ (fat fullShare word l₆ 0 (vint w64 i)) ∷ ‵ (fat fullShare ty₅ l₅ 0 v₄) ∷ ‵ (fat fullShare ty₄ l₄ 0 v₃) ∷ ‵ (fat fullShare ty₃ l₃ 0 v₂) ∷ ‵ (fat fullShare TT′.mir l₂ 0 v₁) ∷ ‵ (fat fullShare ty₁ l₁ 0 v₀) ∷ ‵ (froom tyUnit l₀ 0) ∷ ‵ (fobor κ₀ q₀ (arr-parts (shares R) n .part q′ ws b o)) ∷ ‵ Old ∷ ‵ (New (D i .times) (length (new .now))) ∷ ‵ (Marks (D i .marks) (length (marks .now))) ∷ ‵ (flft κ₁ q₁) ∷ ‵ (flft κ₂ q₂) ∷ ‵ (flft κ₃ q₃) ∷ []
 
-      -- the invariant, where t records are left
-      abbrev Inv : ℕ → List (Item 𝓤)
-      Inv t = raw (fact 𝓤 (t ≤ n)) ∷ At (n - t)
+      -- what no turn touches: the locals are to be freed at the end
+      abbrev Dies : List (Item 𝓤)
+      Dies = ‵ (fdies tyUnit l₀) ∷ ‵ (fdies ty₁ l₁) ∷ ‵ (fdies TT′.mir l₂) ∷ ‵ (fdies ty₃ l₃) ∷ ‵ (fdies ty₄ l₄) ∷ ‵ (fdies ty₅ l₅) ∷ ‵ (fdies word l₆) ∷ ‵ (fdies word l₇) ∷ ‵ (fdies tyBool l₈) ∷ ‵ (fdies tyUnit l₉) ∷ ‵ (fdies tyPtr l₁₀) ∷ ‵ (fdies T′.mir l₁₁) ∷ ‵ (fdies ty₁₂ l₁₂) ∷ ‵ (fdies ty₁₃ l₁₃) ∷ ‵ (fdies ty₁₄ l₁₄) ∷ ‵ (fdies ty₁₅ l₁₅) ∷ []
 
-      abbrev Left : Out → SProp 𝓤
-      Left = afterBlock 𝓤 H (afterSeq 𝓤 H (Wp 𝓤 H (𝓣 .C) (𝓣 .Λ) En mir.t-3 (atReturn 𝓤 H En Post)) (atReturn 𝓤 H En Post))
+      -- the invariant, where t records are left and Δ is put aside
+      abbrev Inv : SProp 𝓤 → ℕ → List (Item 𝓤)
+      Inv Δ t = raw (fact 𝓤 (t ≤ n)) ∷ (At (n - t) ++ (raw Δ ∷ []))
 
       is-next : (t : ℕ) → suc t ≤ n → (c : Board) → c ≡ raise (old .now) line (arc (rec (n - suc t)) (turn₀ .at) (turn₀ .first + (n - suc t))) (D (n - suc t)) → c ≡ D (n - t)
       is-next t f c e = e ∙ pass-more (old .now) line (turn₀ .at) ws (turn₀ .first) (n - suc t) (board (new .now) (marks .now)) (below n t f) ∙ ap D (next′ n t f)
 
-      turn : (t : ℕ) → Sq W (Inv t) (runs (𝓣 .C) (𝓣 .Λ) En mir.turn-1 (anyQ (afterTurn 𝓤 H (Below 𝓤 H A _<_ Inv t) Left)))
+      -- a turn where a record is left: Δ is whatever is put aside, and L what is owed where the loop is left
+      module _ (Δ : SProp 𝓤) (L : Out → SProp 𝓤) where
+        more-turns : (t : ℕ) → Sq W (Inv Δ (suc t)) (runs (𝓣 .C) (𝓣 .Λ) En mir.turn-1 (anyQ (afterTurn 𝓤 H (Below 𝓤 H A _<_ (Inv Δ) (suc t)) L)))
+        unfolding afterTurn
+        more-turns t =
+            heard ! (suc t ≤ n) (λ f.
+            assigns ! (of-opd ! (load ! (from ! (fld ! refl (stop !))) (look-in ! 15 (sub ! 1 refl (whole !))))) (from ! (stop !)) (init ! 9 refl (tt, record { fits = g .0 })) $
+            assigns ! (bin ! (load ! (from ! (stop !)) (look ! 10 refl)) (load ! (from ! (stop !)) (look ! 9 refl)) tt) (from ! (stop !)) (init ! 8 refl (tt, tt)) $
+            rewrite ! 8 (λ (z : Bool). ‵ (fat fullShare tyBool l₈ 0 (vbool z))) (lt-ltb (n - suc t) n (below n t f)) refl $
+            stays ! (load ! (from ! (stop !)) (look ! 8 refl)) $
+            -- the record is read
+            assigns ! (bin ! (load ! (from ! (stop !)) (look ! 10 refl)) (lit ! tt) (record { fits = fits8 n (n - suc t) (below n t f) (g .1) })) (from ! (stop !)) (store ! 9 refl (tt, record { fits = fits8 n (n - suc t) (below n t f) (g .1) })) $
+            assigns ! (bin ! (load ! (from ! (fld ! refl (stop !))) (look-in ! 15 (sub ! 0 refl (whole !)))) (load ! (from ! (stop !)) (look ! 9 refl)) tt) (from ! (stop !)) (init ! 6 refl (tt, tt)) $
+            rewrite ! 6 (λ (p : ℕ). ‵ (fat fullShare tyPtr l₁₀ 0 (vptr b p))) (sym (place-is 8 o (n - suc t))) refl $
+            elem-out ! R (Is R) (shows 𝓤 H A R) (LL.vals T.the-type T′.the-laws) (LL.tells T.the-type T′.the-laws) q′ ws (n - suc t) (item no-window) b o (below n t f) (λ gw.
+            assigns ! (of-opd ! (load ! (from ! (hop ! (look ! 8 refl) (stop !))) (look-raw ! 0 refl))) (from ! (stop !)) (init ! 7 refl (LL.lawful T.the-type T′.the-laws 𝓤 H A W .typed (rec (n - suc t)) _ gw .0)) $
+            elem-back ! R q′ ws (n - suc t) (item no-window) (T′.lowered (rec (n - suc t)) ∷ []) b o (below n t f) $
+            -- new and the marks are lent again, for the lifetimes ν and ξ of the call
+            assigns ! (addr ! (from ! (fld ! refl (hop ! (look-in ! 12 (sub ! 0 refl (whole !))) (stop !))))) (from ! (stop !)) (init ! 4 refl (tt, tt)) $
+            assigns ! (agg ! (and-then ! (load ! (from ! (stop !)) (look ! 4 refl)) (and-then ! (load ! (from ! (fld ! refl (stop !))) (look-in ! 12 (sub ! 1 refl (whole !)))) (no-more !)))) (from ! (stop !)) (init ! 3 refl (tt, (tt, (record { fits = g₃ .0 }, tt)))) $
+            assigns ! (addr ! (from ! (fld ! refl (hop ! (look-in ! 11 (sub ! 0 refl (whole !))) (stop !))))) (from ! (stop !)) (init ! 2 refl (tt, tt)) $
+            assigns ! (agg ! (and-then ! (load ! (from ! (stop !)) (look ! 2 refl)) (and-then ! (load ! (from ! (fld ! refl (stop !))) (look-in ! 11 (sub ! 1 refl (whole !)))) (no-more !)))) (from ! (stop !)) (init ! 1 refl (tt, (tt, (record { fits = g₄ .0 }, tt)))) $
+            rewrite ! 3 (λ (k : ℕ). ‵ (fat fullShare ty₁₃ l₁₃ 0 (sliceVal (new .ptr) k))) (sym (long-new (n - suc t))) refl $
+            rewrite ! 19 (λ (k : ℕ). ‵ (New (D (n - suc t) .times) k)) (sym (long-new (n - suc t))) refl $
+            rewrite ! 1 (λ (k : ℕ). ‵ (fat fullShare ty₁₅ l₁₅ 0 (sliceVal (marks .ptr) k))) (sym (long-marks (n - suc t))) refl $
+            rewrite ! 20 (λ (k : ℕ). ‵ (Marks (D (n - suc t) .marks) k)) (sym (long-marks (n - suc t))) refl $
+            lft-new ! tt (λ ν. move ! (20 ∷ 23 ∷ []) $
+            use2 W (later (some (λ (δ : GName). ‵ (MutSlice (named 1) (ν ∷ []) u64 .own (x new δ (D (n - suc t) .times)) (sliceVal (new .ptr) (length (D (n - suc t) .times)) ∷ [])) ⊛ ‵ (LentAgain u64 κ₂ (ν ∷ []) q₂ (new .name) (new .ptr .0) (new .ptr .1) δ (D (n - suc t) .times)))))
+            (lends-again u64 κ₂ (ν ∷ []) q₂ (new .name) (new .ptr .0) (new .ptr .1) 𝓤 H A W (named 2) (named 1) (D (n - suc t) .times)) $ await ! tt $ pick ! (λ δ. split ! $
+            lft-new ! tt (λ ξ. move ! (23 ∷ 25 ∷ []) $
+            use2 W (later (some (λ (ε : GName). ‵ (MutSlice (named 2) (ξ ∷ []) u32 .own (x marks ε (D (n - suc t) .marks)) (sliceVal (marks .ptr) (length (D (n - suc t) .marks)) ∷ [])) ⊛ ‵ (LentAgain u32 κ₃ (ξ ∷ []) q₃ (marks .name) (marks .ptr .0) (marks .ptr .1) ε (D (n - suc t) .marks)))))
+            (lends-again u32 κ₃ (ξ ∷ []) q₃ (marks .name) (marks .ptr .0) (marks .ptr .1) 𝓤 H A W (named 3) (named 2) (D (n - suc t) .marks)) $ await ! tt $ pick ! (λ ε. split ! $
+            move ! (24 ∷ []) $ use1 W (‵ Old ⊛ ‵ Old) (shr-slice-copy 𝓤 H A W (named 1) κ₁ u64 .twice old (v₂ ∷ [])) $ split ! $
+            owned ! R (Is R) (LL.makes T.the-type T′.the-plain 𝓤 H A) (rec (n - suc t)) (T′.lowered (rec (n - suc t)) ∷ []) gw $ owned ! S (Is S) (LL.makes TT.the-type TT′.the-plain 𝓤 H A) turn₀ (v₁ ∷ []) gt $ owned ! usize (Is usize) (uint-makes 𝓤 H A W w64) (n - suc t) (vint w64 (n - suc t) ∷ []) (refl, fits n (n - suc t) (below n t f) (g .0)) $
+            move ! (2 ∷ 1 ∷ 0 ∷ 3 ∷ 8 ∷ 5 ∷ 29 ∷ 10 ∷ 7 ∷ []) $ group ! 9 $ use1 W (raw (Step 𝓤 H A mem run .pre (to-step (rec (n - suc t)) (n - suc t) (D (n - suc t) .times) (D (n - suc t) .marks) ν ξ δ ε))) (goes-step (rec (n - suc t)) (n - suc t) (D (n - suc t) .times) (D (n - suc t) .marks) ν ξ δ ε (can (n - suc t) (below n t f))) $
+            calls-at ! (fmOf 𝓤 H (W .laws) 𝓣) (Step 𝓤 H A mem run) known (to-step (rec (n - suc t)) (n - suc t) (D (n - suc t) .times) (D (n - suc t) .marks) ν ξ δ ε)
+            (and-then ! (load ! (from ! (stop !)) (look ! 9 refl)) (and-then ! (load ! (from ! (stop !)) (look ! 18 refl)) (and-then ! (load ! (from ! (stop !)) (look ! 14 refl)) (and-then ! (load ! (from ! (stop !)) (look ! 17 refl)) (and-then ! (load ! (from ! (stop !)) (look ! 7 refl)) (and-then ! (load ! (from ! (stop !)) (look ! 5 refl)) (no-more !))))))) (λ u.
+            use1 W (later (some (λ (r : Unit {0}). ((‵ (flft κ₁ q₁) ⊛ (‵ (flft (ν ∷ []) fullShare) ⊛ (‵ (flft (ξ ∷ []) fullShare) ⊛ ‵ ftrue))) ⊛ ‵ (unit .own r (u ∷ []))) ⊛ raw (ensured 𝓤 H A step.ended (step.clauses 𝓤 H A mem run) (κ₁, (ν ∷ [], (ξ ∷ [], tt))) (rec (n - suc t), (turn₀, (n - suc t, (old, (x new δ (D (n - suc t) .times), (x marks ε (D (n - suc t) .marks), tt)))))) tt r)))) (id⊢ 𝓤 _) $ await ! tt $ pick ! (λ r.
+            split ! $ move ! (1 ∷ []) $
+            use1 W (some (λ (zs : Unit {0} × (Unit {0} × (Unit {0} × (Unit {0} × (List ℕ × (List ℕ × Unit {0})))))). ‵ (lasts step.ended (κ₁, (ν ∷ [], (ξ ∷ [], tt))) (rec (n - suc t), (turn₀, (n - suc t, (old, (x new δ (D (n - suc t) .times), (x marks ε (D (n - suc t) .marks), tt)))))) zs) ⊛ raw (fact 𝓤 (board (zs .1 .1 .1 .1 .0) (zs .1 .1 .1 .1 .1 .0) ≡ raise (old .now) line (arc (rec (n - suc t)) (turn₀ .at) (turn₀ .first + (n - suc t))) (D (n - suc t)))))) (id⊢ 𝓤 _) $ pick ! (λ zs.
+            split ! $ move ! (1 ∷ []) $ heard ! (board (zs .1 .1 .1 .1 .0) (zs .1 .1 .1 .1 .1 .0) ≡ raise (old .now) line (arc (rec (n - suc t)) (turn₀ .at) (turn₀ .first + (n - suc t))) (D (n - suc t))) (λ e.
+            fsplit ! $ drop ! $ fsplit ! $ drop ! $ fsplit ! $ drop ! $ fsplit ! $ drop ! $ fsplit ! $ fsplit ! $ move ! (1 ∷ []) $ feqL ! (λ a. move ! (1 ∷ []) $ fsplit ! $ fsplit ! $ move ! (1 ∷ []) $ feqL ! (λ d.
+            move ! (3 ∷ []) $ split ! $ move ! (1 ∷ []) $ facts ! unit (Is unit) (shows 𝓤 H A unit) r (u ∷ []) (λ is.
+            land ! (from ! (stop !)) (init ! 14 refl (nothing-lawful 𝓤 H A W .typed r (u ∷ []) is .0)) $
+            split ! $ move ! (1 ∷ []) $ split ! $ move ! (1 ∷ []) $ split ! $ move ! (2 ∷ []) $ lft-end ! tt $ move ! (0 ∷ 9 ∷ 6 ∷ []) $
+            use3 W (later (‵ (New (zs .1 .1 .1 .1 .0) (length (D (n - suc t) .times))) ⊛ ‵ (flft κ₂ q₂))) (comes-back u64 κ₂ (ν ∷ []) q₂ (new .name) (new .ptr .0) (new .ptr .1) 𝓤 H A W (named 2) (named 1) (D (n - suc t) .times) δ (zs .1 .1 .1 .1 .0) (subst (Room u64) (sym (long-new (n - suc t))) g₃) a) $ await ! tt $ split ! $
+            move ! (2 ∷ []) $ lft-end ! tt $ move ! (0 ∷ 8 ∷ 5 ∷ []) $
+            use3 W (later (‵ (Marks (zs .1 .1 .1 .1 .1 .0) (length (D (n - suc t) .marks))) ⊛ ‵ (flft κ₃ q₃))) (comes-back u32 κ₃ (ξ ∷ []) q₃ (marks .name) (marks .ptr .0) (marks .ptr .1) 𝓤 H A W (named 3) (named 2) (D (n - suc t) .marks) ε (zs .1 .1 .1 .1 .1 .0) (subst (Room u32) (sym (long-marks (n - suc t))) g₄) d) $ await ! tt $ split ! $
+            rewrite ! 2 (λ (k : ℕ). ‵ (New (zs .1 .1 .1 .1 .0) k)) (long-new (n - suc t)) refl $ rewrite ! 2 (λ (l : List ℕ). ‵ (New l (length (new .now)))) (ap (λ (c : Board). c .times) (is-next t f (board (zs .1 .1 .1 .1 .0) (zs .1 .1 .1 .1 .1 .0)) e)) refl $
+            rewrite ! 0 (λ (k : ℕ). ‵ (Marks (zs .1 .1 .1 .1 .1 .0) k)) (long-marks (n - suc t)) refl $ rewrite ! 0 (λ (l : List ℕ). ‵ (Marks l (length (marks .now)))) (ap (λ (c : Board). c .marks) (is-next t f (board (zs .1 .1 .1 .1 .0) (zs .1 .1 .1 .1 .1 .0)) e)) refl $
+            assigns-last ! (bin ! (load ! (from ! (stop !)) (look ! 18 refl)) (lit ! tt) (record { fits = next-fits n t f (g .0) })) (from ! (stop !)) (store ! 18 refl (tt, record { fits = next-fits n t f (g .0) })) $
+            rewrite ! 18 (λ (j : ℕ). ‵ (fat fullShare word l₆ 0 (vint w64 j))) (next n t f) refl $
+            forget ! 9 refl $ forget ! 10 refl $ forget ! 11 refl $ forget ! 12 refl $ forget ! 13 refl $ forget ! 14 refl $ forget ! 15 refl $ forget ! 16 refl $ forget ! 17 refl $
+            keep ! (8 ∷ 9 ∷ 10 ∷ 11 ∷ 12 ∷ 13 ∷ 14 ∷ 15 ∷ 16 ∷ 17 ∷ 18 ∷ 19 ∷ 20 ∷ 21 ∷ 22 ∷ 23 ∷ 24 ∷ 25 ∷ 7 ∷ 2 ∷ 0 ∷ 5 ∷ 3 ∷ 1 ∷ 26 ∷ []) $
+            use0 W (raw (fact 𝓤 (t ≤ n))) (factI 𝓤 (t ≤ n) (emp 𝓤) (fewer n t f)) $
+            again ! _<_ (Inv Δ) (suc t) t (lt-suc t))))))))))))))
+
+      abbrev Left : Out → SProp 𝓤
+      Left = afterBlock 𝓤 H (afterSeq 𝓤 H (Wp 𝓤 H (𝓣 .C) (𝓣 .Λ) En mir.t-3 (atReturn 𝓤 H En Post)) (atReturn 𝓤 H En Post))
+
+      turn : (t : ℕ) → Sq W (Inv (⋆ 𝓤 H A Dies) t) (runs (𝓣 .C) (𝓣 .Λ) En mir.turn-1 (anyQ (afterTurn 𝓤 H (Below 𝓤 H A _<_ (Inv (⋆ 𝓤 H A Dies)) t) Left)))
       unfolding afterTurn
       turn zero =
-          heard ! (zero ≤ n) (λ f.
+          unaside ! (raw (fact 𝓤 (zero ≤ n)) ∷ At (n - zero)) Dies $ heard ! (zero ≤ n) (λ f.
           assigns ! (of-opd ! (load ! (from ! (fld ! refl (stop !))) (look-in ! 15 (sub ! 1 refl (whole !))))) (from ! (stop !)) (init ! 9 refl (tt, record { fits = g .0 })) $
           assigns ! (bin ! (load ! (from ! (stop !)) (look ! 10 refl)) (load ! (from ! (stop !)) (look ! 9 refl)) tt) (from ! (stop !)) (init ! 8 refl (tt, tt)) $
           rewrite ! 8 (λ (z : Bool). ‵ (fat fullShare tyBool l₈ 0 (vbool z))) (le-ltb (n - zero) n (all-done n)) refl $
@@ -280,58 +342,7 @@ module _ {M : Type 1} (𝓤 : URA M) (H : Heap 𝓤) (A : Atoms 𝓤) (W : Given
           move ! (10 ∷ 17 ∷ []) $ free1 ! $ move ! (9 ∷ 16 ∷ []) $ free1 ! $ move ! (8 ∷ 15 ∷ []) $ free1 ! $ move ! (7 ∷ 14 ∷ []) $ free1 ! $ move ! (6 ∷ 13 ∷ []) $ free1 ! $ move ! (5 ∷ 12 ∷ []) $ free1 ! $
           move ! (4 ∷ 11 ∷ []) $ free1 ! $ move ! (3 ∷ 10 ∷ []) $ free1 ! $ move ! (2 ∷ 9 ∷ []) $ free1 ! $ move ! (1 ∷ 8 ∷ []) $ free1 ! $ free0 ! $
           keep ! (0 ∷ 4 ∷ 5 ∷ 6 ∷ 2 ∷ 3 ∷ []) $ by ! (exits (D (n - zero) .times) (D (n - zero) .marks) (ap D (sub-zero n) ∙ pass-all (old .now) line (turn₀ .at) ws (turn₀ .first) (board (new .now) (marks .now))) (long-new (n - zero)) (long-marks (n - zero))))
-      turn (suc t) =
-          heard ! (suc t ≤ n) (λ f.
-          assigns ! (of-opd ! (load ! (from ! (fld ! refl (stop !))) (look-in ! 15 (sub ! 1 refl (whole !))))) (from ! (stop !)) (init ! 9 refl (tt, record { fits = g .0 })) $
-          assigns ! (bin ! (load ! (from ! (stop !)) (look ! 10 refl)) (load ! (from ! (stop !)) (look ! 9 refl)) tt) (from ! (stop !)) (init ! 8 refl (tt, tt)) $
-          rewrite ! 8 (λ (z : Bool). ‵ (fat fullShare tyBool l₈ 0 (vbool z))) (lt-ltb (n - suc t) n (below n t f)) refl $
-          stays ! (load ! (from ! (stop !)) (look ! 8 refl)) $
-          -- the record is read
-          assigns ! (bin ! (load ! (from ! (stop !)) (look ! 10 refl)) (lit ! tt) (record { fits = fits8 n (n - suc t) (below n t f) (g .1) })) (from ! (stop !)) (store ! 9 refl (tt, record { fits = fits8 n (n - suc t) (below n t f) (g .1) })) $
-          assigns ! (bin ! (load ! (from ! (fld ! refl (stop !))) (look-in ! 15 (sub ! 0 refl (whole !)))) (load ! (from ! (stop !)) (look ! 9 refl)) tt) (from ! (stop !)) (init ! 6 refl (tt, tt)) $
-          rewrite ! 6 (λ (p : ℕ). ‵ (fat fullShare tyPtr l₁₀ 0 (vptr b p))) (sym (place-is 8 o (n - suc t))) refl $
-          elem-out ! R (Is R) (shows 𝓤 H A R) (LL.vals T.the-type T′.the-laws) (LL.tells T.the-type T′.the-laws) q′ ws (n - suc t) (item no-window) b o (below n t f) (λ gw.
-          assigns ! (of-opd ! (load ! (from ! (hop ! (look ! 8 refl) (stop !))) (look-raw ! 0 refl))) (from ! (stop !)) (init ! 7 refl (LL.lawful T.the-type T′.the-laws 𝓤 H A W .typed (rec (n - suc t)) _ gw .0)) $
-          elem-back ! R q′ ws (n - suc t) (item no-window) (T′.lowered (rec (n - suc t)) ∷ []) b o (below n t f) $
-          -- new and the marks are lent again, for the lifetimes ν and ξ of the call
-          assigns ! (addr ! (from ! (fld ! refl (hop ! (look-in ! 12 (sub ! 0 refl (whole !))) (stop !))))) (from ! (stop !)) (init ! 4 refl (tt, tt)) $
-          assigns ! (agg ! (and-then ! (load ! (from ! (stop !)) (look ! 4 refl)) (and-then ! (load ! (from ! (fld ! refl (stop !))) (look-in ! 12 (sub ! 1 refl (whole !)))) (no-more !)))) (from ! (stop !)) (init ! 3 refl (tt, (tt, (record { fits = g₃ .0 }, tt)))) $
-          assigns ! (addr ! (from ! (fld ! refl (hop ! (look-in ! 11 (sub ! 0 refl (whole !))) (stop !))))) (from ! (stop !)) (init ! 2 refl (tt, tt)) $
-          assigns ! (agg ! (and-then ! (load ! (from ! (stop !)) (look ! 2 refl)) (and-then ! (load ! (from ! (fld ! refl (stop !))) (look-in ! 11 (sub ! 1 refl (whole !)))) (no-more !)))) (from ! (stop !)) (init ! 1 refl (tt, (tt, (record { fits = g₄ .0 }, tt)))) $
-          rewrite ! 3 (λ (k : ℕ). ‵ (fat fullShare ty₁₃ l₁₃ 0 (sliceVal (new .ptr) k))) (sym (long-new (n - suc t))) refl $
-          rewrite ! 19 (λ (k : ℕ). ‵ (New (D (n - suc t) .times) k)) (sym (long-new (n - suc t))) refl $
-          rewrite ! 1 (λ (k : ℕ). ‵ (fat fullShare ty₁₅ l₁₅ 0 (sliceVal (marks .ptr) k))) (sym (long-marks (n - suc t))) refl $
-          rewrite ! 20 (λ (k : ℕ). ‵ (Marks (D (n - suc t) .marks) k)) (sym (long-marks (n - suc t))) refl $
-          lft-new ! tt (λ ν. move ! (20 ∷ 23 ∷ []) $
-          use2 W (later (some (λ (δ : GName). ‵ (MutSlice (named 1) (ν ∷ []) u64 .own (x new δ (D (n - suc t) .times)) (sliceVal (new .ptr) (length (D (n - suc t) .times)) ∷ [])) ⊛ ‵ (LentAgain u64 κ₂ (ν ∷ []) q₂ (new .name) (new .ptr .0) (new .ptr .1) δ (D (n - suc t) .times)))))
-          (lends-again u64 κ₂ (ν ∷ []) q₂ (new .name) (new .ptr .0) (new .ptr .1) 𝓤 H A W (named 2) (named 1) (D (n - suc t) .times)) $ await ! tt $ pick ! (λ δ. split ! $
-          lft-new ! tt (λ ξ. move ! (23 ∷ 25 ∷ []) $
-          use2 W (later (some (λ (ε : GName). ‵ (MutSlice (named 2) (ξ ∷ []) u32 .own (x marks ε (D (n - suc t) .marks)) (sliceVal (marks .ptr) (length (D (n - suc t) .marks)) ∷ [])) ⊛ ‵ (LentAgain u32 κ₃ (ξ ∷ []) q₃ (marks .name) (marks .ptr .0) (marks .ptr .1) ε (D (n - suc t) .marks)))))
-          (lends-again u32 κ₃ (ξ ∷ []) q₃ (marks .name) (marks .ptr .0) (marks .ptr .1) 𝓤 H A W (named 3) (named 2) (D (n - suc t) .marks)) $ await ! tt $ pick ! (λ ε. split ! $
-          move ! (24 ∷ []) $ use1 W (‵ Old ⊛ ‵ Old) (shr-slice-copy 𝓤 H A W (named 1) κ₁ u64 .twice old (v₂ ∷ [])) $ split ! $
-          owned ! R (Is R) (LL.makes T.the-type T′.the-plain 𝓤 H A) (rec (n - suc t)) (T′.lowered (rec (n - suc t)) ∷ []) gw $ owned ! S (Is S) (LL.makes TT.the-type TT′.the-plain 𝓤 H A) turn₀ (v₁ ∷ []) gt $ owned ! usize (Is usize) (uint-makes 𝓤 H A W w64) (n - suc t) (vint w64 (n - suc t) ∷ []) (refl, fits n (n - suc t) (below n t f) (g .0)) $
-          move ! (2 ∷ 1 ∷ 0 ∷ 3 ∷ 8 ∷ 5 ∷ 29 ∷ 10 ∷ 7 ∷ []) $ group ! 9 $ use1 W (raw (Step 𝓤 H A mem run .pre (to-step (rec (n - suc t)) (n - suc t) (D (n - suc t) .times) (D (n - suc t) .marks) ν ξ δ ε))) (goes-step (rec (n - suc t)) (n - suc t) (D (n - suc t) .times) (D (n - suc t) .marks) ν ξ δ ε (can (n - suc t) (below n t f))) $
-          calls-at ! (fmOf 𝓤 H (W .laws) 𝓣) (Step 𝓤 H A mem run) known (to-step (rec (n - suc t)) (n - suc t) (D (n - suc t) .times) (D (n - suc t) .marks) ν ξ δ ε)
-          (and-then ! (load ! (from ! (stop !)) (look ! 9 refl)) (and-then ! (load ! (from ! (stop !)) (look ! 18 refl)) (and-then ! (load ! (from ! (stop !)) (look ! 14 refl)) (and-then ! (load ! (from ! (stop !)) (look ! 17 refl)) (and-then ! (load ! (from ! (stop !)) (look ! 7 refl)) (and-then ! (load ! (from ! (stop !)) (look ! 5 refl)) (no-more !))))))) (λ u.
-          use1 W (later (some (λ (r : Unit {0}). ((‵ (flft κ₁ q₁) ⊛ (‵ (flft (ν ∷ []) fullShare) ⊛ (‵ (flft (ξ ∷ []) fullShare) ⊛ ‵ ftrue))) ⊛ ‵ (unit .own r (u ∷ []))) ⊛ raw (ensured 𝓤 H A step.ended (step.clauses 𝓤 H A mem run) (κ₁, (ν ∷ [], (ξ ∷ [], tt))) (rec (n - suc t), (turn₀, (n - suc t, (old, (x new δ (D (n - suc t) .times), (x marks ε (D (n - suc t) .marks), tt)))))) tt r)))) (id⊢ 𝓤 _) $ await ! tt $ pick ! (λ r.
-          split ! $ move ! (1 ∷ []) $
-          use1 W (some (λ (zs : Unit {0} × (Unit {0} × (Unit {0} × (Unit {0} × (List ℕ × (List ℕ × Unit {0})))))). ‵ (lasts step.ended (κ₁, (ν ∷ [], (ξ ∷ [], tt))) (rec (n - suc t), (turn₀, (n - suc t, (old, (x new δ (D (n - suc t) .times), (x marks ε (D (n - suc t) .marks), tt)))))) zs) ⊛ raw (fact 𝓤 (board (zs .1 .1 .1 .1 .0) (zs .1 .1 .1 .1 .1 .0) ≡ raise (old .now) line (arc (rec (n - suc t)) (turn₀ .at) (turn₀ .first + (n - suc t))) (D (n - suc t)))))) (id⊢ 𝓤 _) $ pick ! (λ zs.
-          split ! $ move ! (1 ∷ []) $ heard ! (board (zs .1 .1 .1 .1 .0) (zs .1 .1 .1 .1 .1 .0) ≡ raise (old .now) line (arc (rec (n - suc t)) (turn₀ .at) (turn₀ .first + (n - suc t))) (D (n - suc t))) (λ e.
-          fsplit ! $ drop ! $ fsplit ! $ drop ! $ fsplit ! $ drop ! $ fsplit ! $ drop ! $ fsplit ! $ fsplit ! $ move ! (1 ∷ []) $ feqL ! (λ a. move ! (1 ∷ []) $ fsplit ! $ fsplit ! $ move ! (1 ∷ []) $ feqL ! (λ d.
-          move ! (3 ∷ []) $ split ! $ move ! (1 ∷ []) $ facts ! unit (Is unit) (shows 𝓤 H A unit) r (u ∷ []) (λ is.
-          land ! (from ! (stop !)) (init ! 14 refl (nothing-lawful 𝓤 H A W .typed r (u ∷ []) is .0)) $
-          split ! $ move ! (1 ∷ []) $ split ! $ move ! (1 ∷ []) $ split ! $ move ! (2 ∷ []) $ lft-end ! tt $ move ! (0 ∷ 9 ∷ 6 ∷ []) $
-          use3 W (later (‵ (New (zs .1 .1 .1 .1 .0) (length (D (n - suc t) .times))) ⊛ ‵ (flft κ₂ q₂))) (comes-back u64 κ₂ (ν ∷ []) q₂ (new .name) (new .ptr .0) (new .ptr .1) 𝓤 H A W (named 2) (named 1) (D (n - suc t) .times) δ (zs .1 .1 .1 .1 .0) (subst (Room u64) (sym (long-new (n - suc t))) g₃) a) $ await ! tt $ split ! $
-          move ! (2 ∷ []) $ lft-end ! tt $ move ! (0 ∷ 8 ∷ 5 ∷ []) $
-          use3 W (later (‵ (Marks (zs .1 .1 .1 .1 .1 .0) (length (D (n - suc t) .marks))) ⊛ ‵ (flft κ₃ q₃))) (comes-back u32 κ₃ (ξ ∷ []) q₃ (marks .name) (marks .ptr .0) (marks .ptr .1) 𝓤 H A W (named 3) (named 2) (D (n - suc t) .marks) ε (zs .1 .1 .1 .1 .1 .0) (subst (Room u32) (sym (long-marks (n - suc t))) g₄) d) $ await ! tt $ split ! $
-          rewrite ! 2 (λ (k : ℕ). ‵ (New (zs .1 .1 .1 .1 .0) k)) (long-new (n - suc t)) refl $ rewrite ! 2 (λ (l : List ℕ). ‵ (New l (length (new .now)))) (ap (λ (c : Board). c .times) (is-next t f (board (zs .1 .1 .1 .1 .0) (zs .1 .1 .1 .1 .1 .0)) e)) refl $
-          rewrite ! 0 (λ (k : ℕ). ‵ (Marks (zs .1 .1 .1 .1 .1 .0) k)) (long-marks (n - suc t)) refl $ rewrite ! 0 (λ (l : List ℕ). ‵ (Marks l (length (marks .now)))) (ap (λ (c : Board). c .marks) (is-next t f (board (zs .1 .1 .1 .1 .0) (zs .1 .1 .1 .1 .1 .0)) e)) refl $
-          assigns-last ! (bin ! (load ! (from ! (stop !)) (look ! 18 refl)) (lit ! tt) (record { fits = next-fits n t f (g .0) })) (from ! (stop !)) (store ! 18 refl (tt, record { fits = next-fits n t f (g .0) })) $
-          rewrite ! 18 (λ (j : ℕ). ‵ (fat fullShare word l₆ 0 (vint w64 j))) (next n t f) refl $
-          forget ! 9 refl $ forget ! 10 refl $ forget ! 11 refl $ forget ! 12 refl $ forget ! 13 refl $ forget ! 14 refl $ forget ! 15 refl $ forget ! 16 refl $ forget ! 17 refl $
-          keep ! (8 ∷ 9 ∷ 10 ∷ 11 ∷ 12 ∷ 13 ∷ 14 ∷ 15 ∷ 16 ∷ 17 ∷ 18 ∷ 19 ∷ 20 ∷ 21 ∷ 22 ∷ 23 ∷ 24 ∷ 25 ∷ 7 ∷ 2 ∷ 0 ∷ 5 ∷ 3 ∷ 1 ∷ 26 ∷ 27 ∷ 28 ∷ 29 ∷ 30 ∷ 31 ∷ 32 ∷ 33 ∷ 34 ∷ 35 ∷ 36 ∷ 37 ∷ 38 ∷ 39 ∷ 40 ∷ 41 ∷ []) $
-          use0 W (raw (fact 𝓤 (t ≤ n))) (factI 𝓤 (t ≤ n) (emp 𝓤) (fewer n t f)) $
-          again ! _<_ Inv (suc t) t (lt-suc t))))))))))))))
+      turn (suc t) = more-turns (⋆ 𝓤 H A Dies) Left t
 
     abbrev Toks : Item 𝓤
     Toks = ‵ (flft κ₀ q₀) ⊛ (‵ (flft κ₁ q₁) ⊛ (‵ (flft κ₂ q₂) ⊛ (‵ (flft κ₃ q₃) ⊛ ‵ ftrue)))
@@ -358,7 +369,8 @@ module _ {M : Type 1} (𝓤 : URA M) (H : Heap 𝓤) (A : Atoms 𝓤) (W : Given
           rewrite ! 9 (λ (l : List ℕ). ‵ (New l (length (new .now)))) begin-new refl $ rewrite ! 7 (λ (l : List ℕ). ‵ (Marks l (length (marks .now)))) begin-marks refl $
           first ! $ blocks ! $ keep ! (0 ∷ 11 ∷ 13 ∷ 15 ∷ 17 ∷ 19 ∷ 21 ∷ 23 ∷ 25 ∷ 27 ∷ 29 ∷ 31 ∷ 33 ∷ 35 ∷ 37 ∷ 39 ∷ 41 ∷ 1 ∷ 10 ∷ 9 ∷ 7 ∷ 6 ∷ 5 ∷ 3 ∷ 42 ∷ 40 ∷ 38 ∷ 36 ∷ 34 ∷ 32 ∷ 30 ∷ 28 ∷ 26 ∷ 24 ∷ 22 ∷ 20 ∷ 18 ∷ 16 ∷ 14 ∷ 12 ∷ []) $
           use0 W (raw (fact 𝓤 (n ≤ n))) (factI 𝓤 (n ≤ n) (emp 𝓤) (whole-n n)) $
-          loops ! 𝓣 _<_ (Nat·lt-wfRel .wf) (Inv q′ l₀ l₁ l₂ l₃ l₄ l₅ l₆ l₇ l₈ l₉ l₁₀ l₁₁ l₁₂ l₁₃ l₁₄ l₁₅) (turn q′ l₀ l₁ l₂ l₃ l₄ l₅ l₆ l₇ l₈ l₉ l₁₀ l₁₁ l₁₂ l₁₃ l₁₄ l₁₅) n)
+          aside ! (raw (fact 𝓤 (n ≤ n)) ∷ At q′ l₀ l₁ l₂ l₃ l₄ l₅ l₆ l₇ l₈ l₉ l₁₀ l₁₁ l₁₂ l₁₃ l₁₄ l₁₅ (n - n)) (Dies q′ l₀ l₁ l₂ l₃ l₄ l₅ l₆ l₇ l₈ l₉ l₁₀ l₁₁ l₁₂ l₁₃ l₁₄ l₁₅) $
+          loops ! 𝓣 _<_ (Nat·lt-wfRel .wf) (Inv q′ l₀ l₁ l₂ l₃ l₄ l₅ l₆ l₇ l₈ l₉ l₁₀ l₁₁ l₁₂ l₁₃ l₁₄ l₁₅ (⋆ 𝓤 H A (Dies q′ l₀ l₁ l₂ l₃ l₄ l₅ l₆ l₇ l₈ l₉ l₁₀ l₁₁ l₁₂ l₁₃ l₁₄ l₁₅))) (turn q′ l₀ l₁ l₂ l₃ l₄ l₅ l₆ l₇ l₈ l₉ l₁₀ l₁₁ l₁₂ l₁₃ l₁₄ l₁₅) n)
 
     walk : Is (ShrSlice (named 0) κ₀ R) s (v₀ ∷ []) → Is (ShrSlice (named 1) κ₁ u64) old (v₂ ∷ []) → Is (MutSlice (named 2) κ₂ u64) new (v₃ ∷ []) → Is (MutSlice (named 3) κ₃ u32) marks (v₄ ∷ [])
         → ent 𝓤 (onEntry 𝓤 H A pass.signature (κ₀, (κ₁, (κ₂, (κ₃, tt)))) (q₀, (q₁, (q₂, (q₃, tt)))) (s, (turn₀, (old, (new, (marks, tt))))) vals) (WpFn 𝓤 H (𝓣 .C) (𝓣 .Λ) code.function (v₀ ∷ v₁ ∷ v₂ ∷ v₃ ∷ v₄ ∷ []) Post)

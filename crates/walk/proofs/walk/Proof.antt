@@ -1,12 +1,12 @@
 -- `walk::walk` meets its contract: a walk of its MIR with a loop, by hand, since it lends the list of records. The array is copied into
 -- a slot in memory, which is taken apart into its elements and lent for a lifetime of the walk. A turn lends a part of the list to
 -- `pass`, with old as it is and new and the marks to be written, and then has the next turn made by `next`, which may write old and
--- reads new. What the turns do to the state is proofs/Walking: of `pass` and `next` the proof knows their contracts. The variant is how
+-- reads new. What the turns do to the state is turns/proofs/Walking: of `pass` and `next` the proof knows their contracts. The variant is how
 -- many turns are left.
 use mathlib.Core.Path.{_≡_, refl, sym, ap, _∙_, subst}
 use mathlib.Core.Bool.{Bool}
 use Prim.Native.Nat.{ℕ, zero, suc, _<_, _≤_, _+_, _-_, _*_, _^_}
-use mathlib.Core.List.{List, [], _∷_}
+use mathlib.Core.List.{List, [], _∷_, _++_}
 use native.Mathlib.Omega.{arith}
 use lib.Dec.{lit<}
 use lib.ListN.{length, getD, take, drop as drop-list}
@@ -65,6 +65,7 @@ use Rattle.turns.specs.declared.Job.{Job}
 use Rattle.turns.specs.declared.Turn.{Turn}
 use Rattle.turns.specs.Rounds.{board, after, passed, roundOf, turnOf, Able, Posed, Parts, Next, Ran}
 use Rattle.turns.proofs.Walking.{State, state-none, state-more, part-in, part-below, pass-able, next-here, next-round}
+use Rattle.walk.proofs.Aside.{aside, unaside}
 use Rattle.walk.proofs.Again.{LentAgain, lends-again, comes-back, LentShared, lends-shared, shared-back}
 use Rattle.walk.proofs.Slot.{slot, vals as array-values, machOf, to-row, from-row, big-lit}
 use Rattle.turns.proofs.Turn as TT
@@ -405,66 +406,134 @@ module _ {M : Type 1} (𝓤 : URA M) (H : Heap 𝓤) (A : Atoms 𝓤) (W : Given
 
       -- what no turn changes
       abbrev Same : List (Item 𝓤)
-      Same = ‵ (froom slice64 l₂₈ 0) ∷ ‵ (froom ref64 l₂₇ 0) ∷ ‵ (froom mut-slice64 l₂₆ 0) ∷ ‵ (froom mut64 l₂₅ 0) ∷ ‵ (froom mut-slice32 l₂₄ 0) ∷ ‵ (froom mut32 l₂₃ 0) ∷ ‵ (froom mut-slice64 l₂₂ 0) ∷ ‵ (froom mut64 l₂₁ 0) ∷ ‵ (froom slice64 l₂₀ 0) ∷ ‵ (froom ref64 l₁₉ 0) ∷ ‵ (froom part-ty l₁₈ 0) ∷ ‵ (froom elem-ref l₁₇ 0) ∷ ‵ (froom word l₁₆ 0) ∷ ‵ (froom tyPtr l₁₅ 0) ∷ ‵ (froom word l₁₄ 0) ∷ ‵ (froom tyUnit l₁₃ 0) ∷ ‵ (froom tyBool l₁₂ 0) ∷ ‵ (fat fullShare whole-ref l₁₁ 0 (vptr l₈ 0)) ∷ ‵ (fat fullShare part-ty l₉ 0 (sliceVal (l₈, 0) n)) ∷ ‵ (fat fullShare ty₇ l₇ 0 v₆) ∷ ‵ (fat fullShare ty₆ l₆ 0 v₅) ∷ ‵ (fat fullShare ty₅ l₅ 0 v₄) ∷ ‵ (fat fullShare ty₄ l₄ 0 v₃) ∷ ‵ (fat fullShare JJ′.mir l₃ 0 vj) ∷ ‵ (fat fullShare TT′.mir l₂ 0 vb) ∷ ‵ (fat fullShare (slot K) l₁ 0 m) ∷ ‵ (froom TT′.mir l₀ 0) ∷ ‵ Ws ∷ ‵ (flent (α ∷ []) (arr-parts (shares R) n .part fullShare xs l₈ 0)) ∷ ‵ (flft (α ∷ []) fullShare) ∷ ‵ Sched ∷ ‵ (flft κ₀ q₀) ∷ ‵ (flft κ₁ q₁) ∷ ‵ (flft κ₂ q₂) ∷ ‵ (flft κ₃ q₃) ∷ ‵ (fdies TT′.mir l₀) ∷ ‵ (fdies (slot K) l₁) ∷ ‵ (fdies TT′.mir l₂) ∷ ‵ (fdies JJ′.mir l₃) ∷ ‵ (fdies ty₄ l₄) ∷ ‵ (fdies ty₅ l₅) ∷ ‵ (fdies ty₆ l₆) ∷ ‵ (fdies ty₇ l₇) ∷ ‵ (fdies (slot K) l₈) ∷ ‵ (fdies part-ty l₉) ∷ ‵ (fdies TT′.mir l₁₀) ∷ ‵ (fdies whole-ref l₁₁) ∷ ‵ (fdies tyBool l₁₂) ∷ ‵ (fdies tyUnit l₁₃) ∷ ‵ (fdies word l₁₄) ∷ ‵ (fdies tyPtr l₁₅) ∷ ‵ (fdies word l₁₆) ∷ ‵ (fdies elem-ref l₁₇) ∷ ‵ (fdies part-ty l₁₈) ∷ ‵ (fdies ref64 l₁₉) ∷ ‵ (fdies slice64 l₂₀) ∷ ‵ (fdies mut64 l₂₁) ∷ ‵ (fdies mut-slice64 l₂₂) ∷ ‵ (fdies mut32 l₂₃) ∷ ‵ (fdies mut-slice32 l₂₄) ∷ ‵ (fdies mut64 l₂₅) ∷ ‵ (fdies mut-slice64 l₂₆) ∷ ‵ (fdies ref64 l₂₇) ∷ ‵ (fdies slice64 l₂₈) ∷ []
+      Same = ‵ (froom slice64 l₂₈ 0) ∷ ‵ (froom ref64 l₂₇ 0) ∷ ‵ (froom mut-slice64 l₂₆ 0) ∷ ‵ (froom mut64 l₂₅ 0) ∷ ‵ (froom mut-slice32 l₂₄ 0) ∷ ‵ (froom mut32 l₂₃ 0) ∷ ‵ (froom mut-slice64 l₂₂ 0) ∷ ‵ (froom mut64 l₂₁ 0) ∷ ‵ (froom slice64 l₂₀ 0) ∷ ‵ (froom ref64 l₁₉ 0) ∷ ‵ (froom part-ty l₁₈ 0) ∷ ‵ (froom elem-ref l₁₇ 0) ∷ ‵ (froom word l₁₆ 0) ∷ ‵ (froom tyPtr l₁₅ 0) ∷ ‵ (froom word l₁₄ 0) ∷ ‵ (froom tyUnit l₁₃ 0) ∷ ‵ (froom tyBool l₁₂ 0) ∷ ‵ (fat fullShare whole-ref l₁₁ 0 (vptr l₈ 0)) ∷ ‵ (fat fullShare part-ty l₉ 0 (sliceVal (l₈, 0) n)) ∷ ‵ (fat fullShare ty₇ l₇ 0 v₆) ∷ ‵ (fat fullShare ty₆ l₆ 0 v₅) ∷ ‵ (fat fullShare ty₅ l₅ 0 v₄) ∷ ‵ (fat fullShare ty₄ l₄ 0 v₃) ∷ ‵ (fat fullShare JJ′.mir l₃ 0 vj) ∷ ‵ (fat fullShare TT′.mir l₂ 0 vb) ∷ ‵ (fat fullShare (slot K) l₁ 0 m) ∷ ‵ (froom TT′.mir l₀ 0) ∷ ‵ Ws ∷ ‵ (flent (α ∷ []) (arr-parts (shares R) n .part fullShare xs l₈ 0)) ∷ ‵ (flft (α ∷ []) fullShare) ∷ ‵ Sched ∷ ‵ (flft κ₀ q₀) ∷ ‵ (flft κ₁ q₁) ∷ ‵ (flft κ₂ q₂) ∷ ‵ (flft κ₃ q₃) ∷ []
+
+      -- and what no turn touches: the locals are to be freed at the end
+      abbrev Dies : List (Item 𝓤)
+      Dies = ‵ (fdies TT′.mir l₀) ∷ ‵ (fdies (slot K) l₁) ∷ ‵ (fdies TT′.mir l₂) ∷ ‵ (fdies JJ′.mir l₃) ∷ ‵ (fdies ty₄ l₄) ∷ ‵ (fdies ty₅ l₅) ∷ ‵ (fdies ty₆ l₆) ∷ ‵ (fdies ty₇ l₇) ∷ ‵ (fdies (slot K) l₈) ∷ ‵ (fdies part-ty l₉) ∷ ‵ (fdies TT′.mir l₁₀) ∷ ‵ (fdies whole-ref l₁₁) ∷ ‵ (fdies tyBool l₁₂) ∷ ‵ (fdies tyUnit l₁₃) ∷ ‵ (fdies word l₁₄) ∷ ‵ (fdies tyPtr l₁₅) ∷ ‵ (fdies word l₁₆) ∷ ‵ (fdies elem-ref l₁₇) ∷ ‵ (fdies part-ty l₁₈) ∷ ‵ (fdies ref64 l₁₉) ∷ ‵ (fdies slice64 l₂₀) ∷ ‵ (fdies mut64 l₂₁) ∷ ‵ (fdies mut-slice64 l₂₂) ∷ ‵ (fdies mut32 l₂₃) ∷ ‵ (fdies mut-slice32 l₂₄) ∷ ‵ (fdies mut64 l₂₅) ∷ ‵ (fdies mut-slice64 l₂₆) ∷ ‵ (fdies ref64 l₂₇) ∷ ‵ (fdies slice64 l₂₈) ∷ []
 
       -- the turn, the tables and the marks, and what is known of them where t turns are left
       abbrev Var : ℕ → St → Item 𝓤
       Var t z = raw (fact 𝓤 (Good t z)) ⊛ (‵ (fat fullShare TT′.mir l₁₀ 0 (TT′.lowered (z .turn))) ⊛ (‵ (Old (z .old) (length (old .now))) ⊛ (‵ (New (z .new) (length (new .now))) ⊛ ‵ (Marks (z .marks) (length (marks .now))))))
 
-      abbrev Inv : ℕ → List (Item 𝓤)
-      Inv t = some (λ (z : St). Var t z) ∷ Same
+      -- the invariant, with Δ put aside
+      abbrev Inv : SProp 𝓤 → ℕ → List (Item 𝓤)
+      Inv Δ t = some (λ (z : St). Var t z) ∷ (Same ++ (raw Δ ∷ []))
+
+      -- a turn where one is left: Δ is whatever is put aside, and L what is owed where the loop is left
+      module _ (Δ : SProp 𝓤) (L : Out → SProp 𝓤) where
+        -- the second half of a turn: the next turn is made
+        halfway : (t : ℕ) (z : St) (good : Good (suc t) z) (n′ m′ : List ℕ) (pass-done : board n′ m′ ≡ after (z .old) (z .turn .round * 192) (passed (z .turn .at) (z .turn .first) (part z)) (board (z .new) (z .marks))) (ln : length n′ ≡ length (z .new)) (lm : length m′ ≡ length (z .marks))
+            → Sq W (‵ (fat fullShare TT′.mir l₁₀ 0 (TT′.lowered (z .turn))) ∷ ‵ (Old (z .old) (length (old .now))) ∷ ‵ (New n′ (length (new .now))) ∷ ‵ (Marks m′ (length (marks .now))) ∷ (Same ++ (raw Δ ∷ []))) (runs (𝓣 .C) (𝓣 .Λ) En (rest 14 mir.turn-1) (anyQ (afterTurn 𝓤 H (Below 𝓤 H A _<_ (Inv Δ) (suc t)) L)))
+        unfolding afterTurn
+        halfway t z good n′ m′ pass-done ln lm =
+            assigns ! (addr ! (from ! (fld ! refl (hop ! (look-in ! 25 (sub ! 0 refl (whole !))) (stop !))))) (from ! (stop !)) (init ! 7 refl (tt, tt)) $
+            assigns ! (agg ! (and-then ! (load ! (from ! (stop !)) (look ! 7 refl)) (and-then ! (load ! (from ! (fld ! refl (stop !))) (look-in ! 25 (sub ! 1 refl (whole !)))) (no-more !)))) (from ! (stop !)) (init ! 6 refl (tt, (tt, (record { fits = g₄ .0 }, tt)))) $
+            assigns ! (addr ! (from ! (fld ! refl (hop ! (look-in ! 24 (sub ! 0 refl (whole !))) (stop !))))) (from ! (stop !)) (init ! 5 refl (tt, tt)) $
+            assigns ! (agg ! (and-then ! (load ! (from ! (stop !)) (look ! 5 refl)) (and-then ! (load ! (from ! (fld ! refl (stop !))) (look-in ! 24 (sub ! 1 refl (whole !)))) (no-more !)))) (from ! (stop !)) (init ! 4 refl (tt, (tt, (record { fits = g₅ .0 }, tt)))) $
+            rewrite ! 6 (λ (k : ℕ). ‵ (fat fullShare mut-slice64 l₂₆ 0 (sliceVal (old .ptr) k))) (sym (long-old (suc t) z good)) refl $ rewrite ! 1 (λ (k : ℕ). ‵ (Old (z .old) k)) (sym (long-old (suc t) z good)) refl $
+            rewrite ! 4 (λ (k : ℕ). ‵ (fat fullShare slice64 l₂₈ 0 (sliceVal (new .ptr) k))) (sym (ln ∙ long-new (suc t) z good)) refl $ rewrite ! 2 (λ (k : ℕ). ‵ (New n′ k)) (sym (ln ∙ long-new (suc t) z good)) refl $
+            lft-new ! tt (λ ν. move ! (2 ∷ 37 ∷ []) $
+            use2 W (later (some (λ (δ : GName). ‵ (MutSlice (named 1) (ν ∷ []) u64 .own (x old δ (z .old)) (sliceVal (old .ptr) (length (z .old)) ∷ [])) ⊛ ‵ (LentAgain u64 κ₁ (ν ∷ []) q₁ (old .name) (old .ptr .0) (old .ptr .1) δ (z .old)))))
+            (lends-again u64 κ₁ (ν ∷ []) q₁ (old .name) (old .ptr .0) (old .ptr .1) 𝓤 H A W (named 1) (named 1) (z .old)) $ await ! tt $ pick ! (λ δ. split ! $
+            lft-new ! tt (λ β. move ! (5 ∷ 39 ∷ []) $
+            use2 W (later (some (λ (ε : GName). ‵ (ShrSlice (named 2) (β ∷ []) u64 .own (x new ε n′) (sliceVal (new .ptr) (length n′) ∷ [])) ⊛ ‵ (LentShared u64 κ₂ (β ∷ []) q₂ (new .name) (new .ptr .0) (new .ptr .1) n′))))
+            (lends-shared u64 κ₂ (β ∷ []) q₂ (new .name) (new .ptr .0) (new .ptr .1) 𝓤 H A W (named 2) (named 2) n′) $ await ! tt $ pick ! (λ ε. split ! $
+            move ! (38 ∷ []) $ use1 W (‵ Sched ⊛ ‵ Sched) (shr-slice-copy 𝓤 H A W (named 0) κ₀ u8 .twice schedule (v₃ ∷ [])) $ split ! $
+            owned ! S (Is S) (LL.makes TT.the-type TT′.the-plain 𝓤 H A) (z .turn) (TT′.lowered (z .turn) ∷ []) (good .2) $ owned ! J (Is J) (LL.makes JJ.the-type JJ′.the-plain 𝓤 H A) job (vj ∷ []) gj $
+            move ! (1 ∷ 0 ∷ 2 ∷ 7 ∷ 4 ∷ 42 ∷ 9 ∷ 6 ∷ []) $ group ! 8 $ use1 W (raw (Nexts 𝓤 H A mem run .pre (to-next z n′ ν β δ ε))) (goes-next z n′ ν β δ ε (next-ok t z good n′ ln)) $
+            calls-at-last ! (fmOf 𝓤 H (W .laws) 𝓣) (Nexts 𝓤 H A mem run) next-known (to-next z n′ ν β δ ε)
+            (and-then ! (load ! (from ! (stop !)) (look ! 4 refl)) (and-then ! (load ! (from ! (stop !)) (look ! 29 refl)) (and-then ! (load ! (from ! (stop !)) (look ! 28 refl)) (and-then ! (load ! (from ! (stop !)) (look ! 8 refl)) (and-then ! (load ! (from ! (stop !)) (look ! 6 refl)) (no-more !)))))) (λ u.
+            use1 W (later (some (λ (r : Turn). ((‵ (flft κ₀ q₀) ⊛ (‵ (flft (ν ∷ []) fullShare) ⊛ (‵ (flft (β ∷ []) fullShare) ⊛ ‵ ftrue))) ⊛ ‵ (S .own r (u ∷ []))) ⊛ raw (ensured 𝓤 H A next.ended (next.clauses 𝓤 H A mem run) (κ₀, (ν ∷ [], (β ∷ [], tt))) (z .turn, (job, (schedule, (x old δ (z .old), (x new ε n′, tt))))) tt r)))) (id⊢ 𝓤 _) $ await ! tt $ pick ! (λ r.
+            split ! $ move ! (1 ∷ []) $ use1 W (some (λ (zs : Unit {0} × (Unit {0} × (Unit {0} × (List ℕ × (Unit {0} × Unit {0}))))). ‵ (lasts next.ended (κ₀, (ν ∷ [], (β ∷ [], tt))) (z .turn, (job, (schedule, (x old δ (z .old), (x new ε n′, tt))))) zs) ⊛ raw (fact 𝓤 (Next (z .turn) job (schedule .now) (z .old) n′ r (zs .1 .1 .1 .0))))) (id⊢ 𝓤 _) $ pick ! (λ zs.
+            split ! $ move ! (1 ∷ []) $ heard ! (Next (z .turn) job (schedule .now) (z .old) n′ r (zs .1 .1 .1 .0)) (λ e.
+            fsplit ! $ drop ! $ fsplit ! $ drop ! $ fsplit ! $ drop ! $ fsplit ! $ fsplit ! $ move ! (1 ∷ []) $ feqL ! (λ a.
+            move ! (2 ∷ []) $ split ! $ move ! (1 ∷ []) $ facts ! S (Is S) (shows 𝓤 H A S) r (u ∷ []) (λ is.
+            split ! $ move ! (1 ∷ []) $ split ! $ move ! (1 ∷ []) $ split ! $
+            move ! (2 ∷ []) $ lft-end ! tt $ move ! (0 ∷ 8 ∷ 4 ∷ []) $
+            use3 W (later (‵ (Old (zs .1 .1 .1 .0) (length (z .old))) ⊛ ‵ (flft κ₁ q₁))) (comes-back u64 κ₁ (ν ∷ []) q₁ (old .name) (old .ptr .0) (old .ptr .1) 𝓤 H A W (named 1) (named 1) (z .old) δ (zs .1 .1 .1 .0) (subst (Room u64) (sym (long-old (suc t) z good)) g₄) a) $ await ! tt $ split ! $
+            rewrite ! 0 (λ (k : ℕ). ‵ (Old (zs .1 .1 .1 .0) k)) (long-old (suc t) z good) refl $
+            move ! (2 ∷ []) $ lft-end ! tt $ move ! (0 ∷ 7 ∷ []) $
+            use2 W (later (‵ (New n′ (length n′)) ⊛ ‵ (flft κ₂ q₂))) (shared-back u64 κ₂ (β ∷ []) q₂ (new .name) (new .ptr .0) (new .ptr .1) 𝓤 H A W (named 2) (named 2) n′ (subst (Room u64) (sym (ln ∙ long-new (suc t) z good)) g₅)) $ await ! tt $ split ! $
+            rewrite ! 0 (λ (k : ℕ). ‵ (New n′ k)) (ln ∙ long-new (suc t) z good) refl $
+            land-last ! (from ! (stop !)) (store ! 8 refl (LL.lawful TT.the-type TT′.the-laws 𝓤 H A W .typed r (u ∷ []) is .0)) $
+            rewrite ! 8 (λ (y : Val). ‵ (fat fullShare TT′.mir l₁₀ 0 y)) (ap only (TT′.lowers .val-is r (u ∷ []) is)) refl $
+            forget ! 10 refl $ forget ! 11 refl $ forget ! 12 refl $ forget ! 13 refl $
+            -- the state after the turn
+            move ! (0 ∷ 9 ∷ []) $ join ! $ move ! (2 ∷ 0 ∷ []) $ join ! $ move ! (7 ∷ 0 ∷ []) $ join ! $
+            use0 W (raw (fact 𝓤 (Good (r .left) (record { turn = r; old = zs .1 .1 .1 .0; new = n′; marks = m′ })))) (factI 𝓤 (Good (r .left) (record { turn = r; old = zs .1 .1 .1 .0; new = n′; marks = m′ })) (emp 𝓤) (good-next t z good n′ m′ pass-done ln lm r (zs .1 .1 .1 .0) e .0, refl, subst (λ (us : List Val). Is S r us) (TT′.lowers .val-is r (u ∷ []) is) is)) $ join ! $
+            use1 W (some (λ (y : St). Var (r .left) y)) (exI 𝓤 (λ (y : St). mean 𝓤 H A (Var (r .left) y)) (record { turn = r; old = zs .1 .1 .1 .0; new = n′; marks = m′ })) $
+            keep ! (0 ∷ 7 ∷ 8 ∷ 9 ∷ 10 ∷ 11 ∷ 12 ∷ 13 ∷ 14 ∷ 15 ∷ 16 ∷ 17 ∷ 18 ∷ 19 ∷ 20 ∷ 21 ∷ 22 ∷ 23 ∷ 24 ∷ 25 ∷ 26 ∷ 27 ∷ 28 ∷ 29 ∷ 30 ∷ 31 ∷ 32 ∷ 33 ∷ 34 ∷ 35 ∷ 36 ∷ 6 ∷ 4 ∷ 2 ∷ 1 ∷ 37 ∷ 38 ∷ []) $
+            again ! _<_ (Inv Δ) (suc t) (r .left) (lower (z .turn .left) t (r .left) (good .1) (good-next t z good n′ m′ pass-done ln lm r (zs .1 .1 .1 .0) e .1))))))))))))
+
+        more-turns : (t : ℕ) → Sq W (Inv Δ (suc t)) (runs (𝓣 .C) (𝓣 .Λ) En mir.turn-1 (anyQ (afterTurn 𝓤 H (Below 𝓤 H A _<_ (Inv Δ) (suc t)) L)))
+        unfolding afterTurn
+        more-turns t =
+            pick ! (λ z. split ! $ heard ! (Good (suc t) z) (λ good. split ! $ move ! (1 ∷ []) $ split ! $ move ! (1 ∷ []) $ split ! $
+            assigns ! (bin ! (lit ! tt) (load ! (from ! (fld ! refl (stop !))) (look-in ! 3 (sub ! 0 refl (whole !)))) tt) (from ! (stop !)) (init ! 20 refl (tt, tt)) $
+            rewrite ! 20 (λ (y : Bool). ‵ (fat fullShare tyBool l₁₂ 0 (vbool y))) (lt-ltb 0 (z .turn .left) (more t z good)) refl $
+            stays ! (load ! (from ! (stop !)) (look ! 20 refl)) $
+            -- the part of the list
+            assigns ! (bin ! (load ! (from ! (fld ! refl (stop !))) (look-in ! 3 (sub ! 4 refl (whole !)))) (lit ! tt) (record { fits = fits8 (z .turn .first) (z .turn .last) n (ordered t z good) (inside t z good) long })) (from ! (stop !)) (init ! 18 refl (tt, record { fits = fits8 (z .turn .first) (z .turn .last) n (ordered t z good) (inside t z good) long })) $
+            assigns ! (bin ! (load ! (from ! (fld ! refl (stop !))) (look-in ! 22 (sub ! 0 refl (whole !)))) (load ! (from ! (stop !)) (look ! 18 refl)) tt) (from ! (stop !)) (init ! 17 refl (tt, tt)) $
+            assigns ! (bin ! (load ! (from ! (fld ! refl (stop !))) (look-in ! 3 (sub ! 5 refl (whole !)))) (load ! (from ! (fld ! refl (stop !))) (look-in ! 3 (sub ! 4 refl (whole !)))) (ordered t z good)) (from ! (stop !)) (init ! 16 refl (tt, record { fits = fewer (z .turn .first) (z .turn .last) n (inside t z good) long })) $
+            assigns ! (addr ! (from ! (hop ! (look ! 17 refl) (stop !)))) (from ! (stop !)) (init ! 15 refl (tt, tt)) $
+            assigns ! (agg ! (and-then ! (load ! (from ! (stop !)) (look ! 15 refl)) (and-then ! (load ! (from ! (stop !)) (look ! 16 refl)) (no-more !)))) (from ! (stop !)) (init ! 14 refl (tt, (tt, (record { fits = fewer (z .turn .first) (z .turn .last) n (inside t z good) long }, tt)))) $
+            rewrite ! 14 (λ (k : ℕ). ‵ (fat fullShare part-ty l₁₈ 0 (sliceVal (l₈, k) (z .turn .last - z .turn .first)))) (begins xs (z .turn .first) (before (z .turn .first) (z .turn .last) n (ordered t z good) (inside t z good))) refl $
+            rewrite ! 14 (λ (k : ℕ). ‵ (fat fullShare part-ty l₁₈ 0 (sliceVal (l₈, place z) k))) (part-count xs (z .turn .first) (z .turn .last) (ordered t z good, inside t z good)) refl $
+            -- old is lent as it is, new and the marks to be written
+            assigns ! (addr ! (from ! (fld ! refl (hop ! (look-in ! 25 (sub ! 0 refl (whole !))) (stop !))))) (from ! (stop !)) (init ! 13 refl (tt, tt)) $
+            assigns ! (agg ! (and-then ! (load ! (from ! (stop !)) (look ! 13 refl)) (and-then ! (load ! (from ! (fld ! refl (stop !))) (look-in ! 25 (sub ! 1 refl (whole !)))) (no-more !)))) (from ! (stop !)) (init ! 12 refl (tt, (tt, (record { fits = g₄ .0 }, tt)))) $
+            assigns ! (addr ! (from ! (fld ! refl (hop ! (look-in ! 24 (sub ! 0 refl (whole !))) (stop !))))) (from ! (stop !)) (init ! 11 refl (tt, tt)) $
+            assigns ! (agg ! (and-then ! (load ! (from ! (stop !)) (look ! 11 refl)) (and-then ! (load ! (from ! (fld ! refl (stop !))) (look-in ! 24 (sub ! 1 refl (whole !)))) (no-more !)))) (from ! (stop !)) (init ! 10 refl (tt, (tt, (record { fits = g₅ .0 }, tt)))) $
+            assigns ! (addr ! (from ! (fld ! refl (hop ! (look-in ! 23 (sub ! 0 refl (whole !))) (stop !))))) (from ! (stop !)) (init ! 9 refl (tt, tt)) $
+            assigns ! (agg ! (and-then ! (load ! (from ! (stop !)) (look ! 9 refl)) (and-then ! (load ! (from ! (fld ! refl (stop !))) (look-in ! 23 (sub ! 1 refl (whole !)))) (no-more !)))) (from ! (stop !)) (init ! 8 refl (tt, (tt, (record { fits = g₆ .0 }, tt)))) $
+            rewrite ! 12 (λ (k : ℕ). ‵ (fat fullShare slice64 l₂₀ 0 (sliceVal (old .ptr) k))) (sym (long-old (suc t) z good)) refl $ rewrite ! 2 (λ (k : ℕ). ‵ (Old (z .old) k)) (sym (long-old (suc t) z good)) refl $
+            rewrite ! 10 (λ (k : ℕ). ‵ (fat fullShare mut-slice64 l₂₂ 0 (sliceVal (new .ptr) k))) (sym (long-new (suc t) z good)) refl $ rewrite ! 0 (λ (k : ℕ). ‵ (New (z .new) k)) (sym (long-new (suc t) z good)) refl $
+            rewrite ! 8 (λ (k : ℕ). ‵ (fat fullShare mut-slice32 l₂₄ 0 (sliceVal (marks .ptr) k))) (sym (long-marks (suc t) z good)) refl $ rewrite ! 1 (λ (k : ℕ). ‵ (Marks (z .marks) k)) (sym (long-marks (suc t) z good)) refl $
+            lft-new ! tt (λ β. move ! (3 ∷ 37 ∷ []) $
+            use2 W (later (some (λ (γ₁ : GName). ‵ (ShrSlice (named 1) (β ∷ []) u64 .own (x old γ₁ (z .old)) (sliceVal (old .ptr) (length (z .old)) ∷ [])) ⊛ ‵ (LentShared u64 κ₁ (β ∷ []) q₁ (old .name) (old .ptr .0) (old .ptr .1) (z .old)))))
+            (lends-shared u64 κ₁ (β ∷ []) q₁ (old .name) (old .ptr .0) (old .ptr .1) 𝓤 H A W (named 1) (named 1) (z .old)) $ await ! tt $ pick ! (λ γ₁. split ! $
+            lft-new ! tt (λ ν. move ! (4 ∷ 39 ∷ []) $
+            use2 W (later (some (λ (δ : GName). ‵ (MutSlice (named 2) (ν ∷ []) u64 .own (x new δ (z .new)) (sliceVal (new .ptr) (length (z .new)) ∷ [])) ⊛ ‵ (LentAgain u64 κ₂ (ν ∷ []) q₂ (new .name) (new .ptr .0) (new .ptr .1) δ (z .new)))))
+            (lends-again u64 κ₂ (ν ∷ []) q₂ (new .name) (new .ptr .0) (new .ptr .1) 𝓤 H A W (named 2) (named 2) (z .new)) $ await ! tt $ pick ! (λ δ. split ! $
+            lft-new ! tt (λ ξ. move ! (7 ∷ 41 ∷ []) $
+            use2 W (later (some (λ (ε : GName). ‵ (MutSlice (named 3) (ξ ∷ []) u32 .own (x marks ε (z .marks)) (sliceVal (marks .ptr) (length (z .marks)) ∷ [])) ⊛ ‵ (LentAgain u32 κ₃ (ξ ∷ []) q₃ (marks .name) (marks .ptr .0) (marks .ptr .1) ε (z .marks)))))
+            (lends-again u32 κ₃ (ξ ∷ []) q₃ (marks .name) (marks .ptr .0) (marks .ptr .1) 𝓤 H A W (named 3) (named 3) (z .marks)) $ await ! tt $ pick ! (λ ε. split ! $
+            move ! (37 ∷ []) $ use1 W (‵ Ws ⊛ ‵ Ws) (shr-slice-copy 𝓤 H A W (named 0) (α ∷ []) R .twice lent (sliceVal (l₈, 0) n ∷ [])) $ split ! $ move ! (0 ∷ 40 ∷ []) $ fsplit ! $ fsplit ! $ drop ! $ fjoin ! $
+            use2 W (later (some (λ (γ : GName). ‵ (O.ShrSlice erased (α ∷ []) R .own (lent-part l₈ z γ)) ⊛ ‵ (flft (α ∷ []) fullShare))))
+            (shs-part-same 𝓤 H A W R (α ∷ []) fullShare l₈ (λ zs b c. slice-halves 𝓤 H A W R (Is R) (shows 𝓤 H A R) (LL.vals T.the-type T′.the-laws) (LL.tells T.the-type T′.the-laws) (LL.copy T.the-type T′.the-copy 𝓤 H A W) (length zs) zs b c) 0 γ₀ xs (z .turn .first) (z .turn .last - z .turn .first)) $ await ! tt $ pick ! (λ γ. split ! $
+            fsplit ! $ feqI ! (List Val) (sliceVal (l₈, place z) (length (part z)) ∷ []) (sliceVal (l₈, place z) (length (part z)) ∷ []) refl $ fjoin ! $ fjoin ! $
+            owned ! S (Is S) (LL.makes TT.the-type TT′.the-plain 𝓤 H A) (z .turn) (TT′.lowered (z .turn) ∷ []) (good .2) $
+            move ! (1 ∷ 0 ∷ 10 ∷ 7 ∷ 4 ∷ 2 ∷ 12 ∷ 9 ∷ 6 ∷ []) $ group ! 9 $ use1 W (raw (Pass 𝓤 H A mem run .pre (to-pass z l₈ α β ν ξ γ γ₁ δ ε))) (goes-pass z l₈ α β ν ξ γ γ₁ δ ε (pass-ok t z good)) $
+            calls-at ! (fmOf 𝓤 H (W .laws) 𝓣) (Pass 𝓤 H A mem run) pass-known (to-pass z l₈ α β ν ξ γ γ₁ δ ε)
+            (and-then ! (load ! (from ! (stop !)) (look ! 16 refl)) (and-then ! (load ! (from ! (stop !)) (look ! 5 refl)) (and-then ! (load ! (from ! (stop !)) (look ! 14 refl)) (and-then ! (load ! (from ! (stop !)) (look ! 12 refl)) (and-then ! (load ! (from ! (stop !)) (look ! 10 refl)) (no-more !)))))) (λ u.
+            use1 W (later (some (λ (r : Unit {0}). ((‵ (flft (α ∷ []) fullShare) ⊛ (‵ (flft (β ∷ []) fullShare) ⊛ (‵ (flft (ν ∷ []) fullShare) ⊛ (‵ (flft (ξ ∷ []) fullShare) ⊛ ‵ ftrue)))) ⊛ ‵ (unit .own r (u ∷ []))) ⊛ raw (ensured 𝓤 H A pass.ended (pass.clauses 𝓤 H A mem run) (α ∷ [], (β ∷ [], (ν ∷ [], (ξ ∷ [], tt)))) (lent-part l₈ z γ, (z .turn, (x old γ₁ (z .old), (x new δ (z .new), (x marks ε (z .marks), tt))))) tt r)))) (id⊢ 𝓤 _) $ await ! tt $ pick ! (λ r.
+            split ! $ move ! (1 ∷ []) $ use1 W (some (λ (zs : Unit {0} × (Unit {0} × (Unit {0} × (List ℕ × (List ℕ × Unit {0}))))). ‵ (lasts pass.ended (α ∷ [], (β ∷ [], (ν ∷ [], (ξ ∷ [], tt)))) (lent-part l₈ z γ, (z .turn, (x old γ₁ (z .old), (x new δ (z .new), (x marks ε (z .marks), tt))))) zs) ⊛ raw (fact 𝓤 (board (zs .1 .1 .1 .0) (zs .1 .1 .1 .1 .0) ≡ after (z .old) (z .turn .round * 192) (passed (z .turn .at) (z .turn .first) (part z)) (board (z .new) (z .marks)))))) (id⊢ 𝓤 _) $ pick ! (λ zs.
+            split ! $ move ! (1 ∷ []) $ heard ! (board (zs .1 .1 .1 .0) (zs .1 .1 .1 .1 .0) ≡ after (z .old) (z .turn .round * 192) (passed (z .turn .at) (z .turn .first) (part z)) (board (z .new) (z .marks))) (λ e.
+            fsplit ! $ drop ! $ fsplit ! $ drop ! $ fsplit ! $ drop ! $ fsplit ! $ fsplit ! $ move ! (1 ∷ []) $ feqL ! (λ a. move ! (1 ∷ []) $ fsplit ! $ fsplit ! $ move ! (1 ∷ []) $ feqL ! (λ d.
+            move ! (3 ∷ []) $ split ! $ move ! (1 ∷ []) $ facts ! unit (Is unit) (shows 𝓤 H A unit) r (u ∷ []) (λ is.
+            land ! (from ! (stop !)) (init ! 24 refl (nothing-lawful 𝓤 H A W .typed r (u ∷ []) is .0)) $
+            split ! $ move ! (1 ∷ []) $ split ! $ move ! (1 ∷ []) $ split ! $ move ! (1 ∷ []) $ split ! $
+            move ! (3 ∷ []) $ lft-end ! tt $ move ! (0 ∷ 11 ∷ []) $
+            use2 W (later (‵ (Old (z .old) (length (z .old))) ⊛ ‵ (flft κ₁ q₁))) (shared-back u64 κ₁ (β ∷ []) q₁ (old .name) (old .ptr .0) (old .ptr .1) 𝓤 H A W (named 1) (named 1) (z .old) (subst (Room u64) (sym (long-old (suc t) z good)) g₄)) $ await ! tt $ split ! $
+            rewrite ! 0 (λ (k : ℕ). ‵ (Old (z .old) k)) (long-old (suc t) z good) refl $
+            move ! (4 ∷ []) $ lft-end ! tt $ move ! (0 ∷ 11 ∷ 8 ∷ []) $
+            use3 W (later (‵ (New (zs .1 .1 .1 .0) (length (z .new))) ⊛ ‵ (flft κ₂ q₂))) (comes-back u64 κ₂ (ν ∷ []) q₂ (new .name) (new .ptr .0) (new .ptr .1) 𝓤 H A W (named 2) (named 2) (z .new) δ (zs .1 .1 .1 .0) (subst (Room u64) (sym (long-new (suc t) z good)) g₅) a) $ await ! tt $ split ! $
+            rewrite ! 0 (λ (k : ℕ). ‵ (New (zs .1 .1 .1 .0) k)) (long-new (suc t) z good) refl $
+            move ! (4 ∷ []) $ lft-end ! tt $ move ! (0 ∷ 10 ∷ 7 ∷ []) $
+            use3 W (later (‵ (Marks (zs .1 .1 .1 .1 .0) (length (z .marks))) ⊛ ‵ (flft κ₃ q₃))) (comes-back u32 κ₃ (ξ ∷ []) q₃ (marks .name) (marks .ptr .0) (marks .ptr .1) 𝓤 H A W (named 3) (named 3) (z .marks) ε (zs .1 .1 .1 .1 .0) (subst (Room u32) (sym (long-marks (suc t) z good)) g₆) d) $ await ! tt $ split ! $
+            rewrite ! 0 (λ (k : ℕ). ‵ (Marks (zs .1 .1 .1 .1 .0) k)) (long-marks (suc t) z good) refl $
+            forget ! 15 refl $ forget ! 16 refl $ forget ! 17 refl $ forget ! 18 refl $ forget ! 19 refl $ forget ! 20 refl $ forget ! 21 refl $ forget ! 22 refl $ forget ! 23 refl $ forget ! 24 refl $ forget ! 25 refl $ forget ! 26 refl $ forget ! 27 refl $
+            keep ! (10 ∷ 4 ∷ 2 ∷ 0 ∷ 11 ∷ 12 ∷ 13 ∷ 14 ∷ 15 ∷ 16 ∷ 17 ∷ 18 ∷ 19 ∷ 20 ∷ 21 ∷ 22 ∷ 23 ∷ 24 ∷ 25 ∷ 26 ∷ 27 ∷ 28 ∷ 29 ∷ 30 ∷ 31 ∷ 32 ∷ 33 ∷ 34 ∷ 35 ∷ 36 ∷ 37 ∷ 9 ∷ 38 ∷ 7 ∷ 39 ∷ 40 ∷ 5 ∷ 3 ∷ 1 ∷ 41 ∷ []) $ halfway t z good (zs .1 .1 .1 .0) (zs .1 .1 .1 .1 .0) e a d))))))))))))))))
 
       abbrev Left : Out → SProp 𝓤
       Left = afterBlock 𝓤 H (afterSeq 𝓤 H (Wp 𝓤 H (𝓣 .C) (𝓣 .Λ) En mir.t-6 (atReturn 𝓤 H En Post)) (atReturn 𝓤 H En Post))
 
-      -- the second half of a turn: the next turn is made
-      halfway : (t : ℕ) (z : St) (good : Good (suc t) z) (n′ m′ : List ℕ) (pass-done : board n′ m′ ≡ after (z .old) (z .turn .round * 192) (passed (z .turn .at) (z .turn .first) (part z)) (board (z .new) (z .marks))) (ln : length n′ ≡ length (z .new)) (lm : length m′ ≡ length (z .marks))
-          → Sq W (‵ (fat fullShare TT′.mir l₁₀ 0 (TT′.lowered (z .turn))) ∷ ‵ (Old (z .old) (length (old .now))) ∷ ‵ (New n′ (length (new .now))) ∷ ‵ (Marks m′ (length (marks .now))) ∷ Same) (runs (𝓣 .C) (𝓣 .Λ) En (rest 14 mir.turn-1) (anyQ (afterTurn 𝓤 H (Below 𝓤 H A _<_ Inv (suc t)) Left)))
-      unfolding afterTurn
-      halfway t z good n′ m′ pass-done ln lm =
-          assigns ! (addr ! (from ! (fld ! refl (hop ! (look-in ! 25 (sub ! 0 refl (whole !))) (stop !))))) (from ! (stop !)) (init ! 7 refl (tt, tt)) $
-          assigns ! (agg ! (and-then ! (load ! (from ! (stop !)) (look ! 7 refl)) (and-then ! (load ! (from ! (fld ! refl (stop !))) (look-in ! 25 (sub ! 1 refl (whole !)))) (no-more !)))) (from ! (stop !)) (init ! 6 refl (tt, (tt, (record { fits = g₄ .0 }, tt)))) $
-          assigns ! (addr ! (from ! (fld ! refl (hop ! (look-in ! 24 (sub ! 0 refl (whole !))) (stop !))))) (from ! (stop !)) (init ! 5 refl (tt, tt)) $
-          assigns ! (agg ! (and-then ! (load ! (from ! (stop !)) (look ! 5 refl)) (and-then ! (load ! (from ! (fld ! refl (stop !))) (look-in ! 24 (sub ! 1 refl (whole !)))) (no-more !)))) (from ! (stop !)) (init ! 4 refl (tt, (tt, (record { fits = g₅ .0 }, tt)))) $
-          rewrite ! 6 (λ (k : ℕ). ‵ (fat fullShare mut-slice64 l₂₆ 0 (sliceVal (old .ptr) k))) (sym (long-old (suc t) z good)) refl $ rewrite ! 1 (λ (k : ℕ). ‵ (Old (z .old) k)) (sym (long-old (suc t) z good)) refl $
-          rewrite ! 4 (λ (k : ℕ). ‵ (fat fullShare slice64 l₂₈ 0 (sliceVal (new .ptr) k))) (sym (ln ∙ long-new (suc t) z good)) refl $ rewrite ! 2 (λ (k : ℕ). ‵ (New n′ k)) (sym (ln ∙ long-new (suc t) z good)) refl $
-          lft-new ! tt (λ ν. move ! (2 ∷ 37 ∷ []) $
-          use2 W (later (some (λ (δ : GName). ‵ (MutSlice (named 1) (ν ∷ []) u64 .own (x old δ (z .old)) (sliceVal (old .ptr) (length (z .old)) ∷ [])) ⊛ ‵ (LentAgain u64 κ₁ (ν ∷ []) q₁ (old .name) (old .ptr .0) (old .ptr .1) δ (z .old)))))
-          (lends-again u64 κ₁ (ν ∷ []) q₁ (old .name) (old .ptr .0) (old .ptr .1) 𝓤 H A W (named 1) (named 1) (z .old)) $ await ! tt $ pick ! (λ δ. split ! $
-          lft-new ! tt (λ β. move ! (5 ∷ 39 ∷ []) $
-          use2 W (later (some (λ (ε : GName). ‵ (ShrSlice (named 2) (β ∷ []) u64 .own (x new ε n′) (sliceVal (new .ptr) (length n′) ∷ [])) ⊛ ‵ (LentShared u64 κ₂ (β ∷ []) q₂ (new .name) (new .ptr .0) (new .ptr .1) n′))))
-          (lends-shared u64 κ₂ (β ∷ []) q₂ (new .name) (new .ptr .0) (new .ptr .1) 𝓤 H A W (named 2) (named 2) n′) $ await ! tt $ pick ! (λ ε. split ! $
-          move ! (38 ∷ []) $ use1 W (‵ Sched ⊛ ‵ Sched) (shr-slice-copy 𝓤 H A W (named 0) κ₀ u8 .twice schedule (v₃ ∷ [])) $ split ! $
-          owned ! S (Is S) (LL.makes TT.the-type TT′.the-plain 𝓤 H A) (z .turn) (TT′.lowered (z .turn) ∷ []) (good .2) $ owned ! J (Is J) (LL.makes JJ.the-type JJ′.the-plain 𝓤 H A) job (vj ∷ []) gj $
-          move ! (1 ∷ 0 ∷ 2 ∷ 7 ∷ 4 ∷ 42 ∷ 9 ∷ 6 ∷ []) $ group ! 8 $ use1 W (raw (Nexts 𝓤 H A mem run .pre (to-next z n′ ν β δ ε))) (goes-next z n′ ν β δ ε (next-ok t z good n′ ln)) $
-          calls-at-last ! (fmOf 𝓤 H (W .laws) 𝓣) (Nexts 𝓤 H A mem run) next-known (to-next z n′ ν β δ ε)
-          (and-then ! (load ! (from ! (stop !)) (look ! 4 refl)) (and-then ! (load ! (from ! (stop !)) (look ! 29 refl)) (and-then ! (load ! (from ! (stop !)) (look ! 28 refl)) (and-then ! (load ! (from ! (stop !)) (look ! 8 refl)) (and-then ! (load ! (from ! (stop !)) (look ! 6 refl)) (no-more !)))))) (λ u.
-          use1 W (later (some (λ (r : Turn). ((‵ (flft κ₀ q₀) ⊛ (‵ (flft (ν ∷ []) fullShare) ⊛ (‵ (flft (β ∷ []) fullShare) ⊛ ‵ ftrue))) ⊛ ‵ (S .own r (u ∷ []))) ⊛ raw (ensured 𝓤 H A next.ended (next.clauses 𝓤 H A mem run) (κ₀, (ν ∷ [], (β ∷ [], tt))) (z .turn, (job, (schedule, (x old δ (z .old), (x new ε n′, tt))))) tt r)))) (id⊢ 𝓤 _) $ await ! tt $ pick ! (λ r.
-          split ! $ move ! (1 ∷ []) $ use1 W (some (λ (zs : Unit {0} × (Unit {0} × (Unit {0} × (List ℕ × (Unit {0} × Unit {0}))))). ‵ (lasts next.ended (κ₀, (ν ∷ [], (β ∷ [], tt))) (z .turn, (job, (schedule, (x old δ (z .old), (x new ε n′, tt))))) zs) ⊛ raw (fact 𝓤 (Next (z .turn) job (schedule .now) (z .old) n′ r (zs .1 .1 .1 .0))))) (id⊢ 𝓤 _) $ pick ! (λ zs.
-          split ! $ move ! (1 ∷ []) $ heard ! (Next (z .turn) job (schedule .now) (z .old) n′ r (zs .1 .1 .1 .0)) (λ e.
-          fsplit ! $ drop ! $ fsplit ! $ drop ! $ fsplit ! $ drop ! $ fsplit ! $ fsplit ! $ move ! (1 ∷ []) $ feqL ! (λ a.
-          move ! (2 ∷ []) $ split ! $ move ! (1 ∷ []) $ facts ! S (Is S) (shows 𝓤 H A S) r (u ∷ []) (λ is.
-          split ! $ move ! (1 ∷ []) $ split ! $ move ! (1 ∷ []) $ split ! $
-          move ! (2 ∷ []) $ lft-end ! tt $ move ! (0 ∷ 8 ∷ 4 ∷ []) $
-          use3 W (later (‵ (Old (zs .1 .1 .1 .0) (length (z .old))) ⊛ ‵ (flft κ₁ q₁))) (comes-back u64 κ₁ (ν ∷ []) q₁ (old .name) (old .ptr .0) (old .ptr .1) 𝓤 H A W (named 1) (named 1) (z .old) δ (zs .1 .1 .1 .0) (subst (Room u64) (sym (long-old (suc t) z good)) g₄) a) $ await ! tt $ split ! $
-          rewrite ! 0 (λ (k : ℕ). ‵ (Old (zs .1 .1 .1 .0) k)) (long-old (suc t) z good) refl $
-          move ! (2 ∷ []) $ lft-end ! tt $ move ! (0 ∷ 7 ∷ []) $
-          use2 W (later (‵ (New n′ (length n′)) ⊛ ‵ (flft κ₂ q₂))) (shared-back u64 κ₂ (β ∷ []) q₂ (new .name) (new .ptr .0) (new .ptr .1) 𝓤 H A W (named 2) (named 2) n′ (subst (Room u64) (sym (ln ∙ long-new (suc t) z good)) g₅)) $ await ! tt $ split ! $
-          rewrite ! 0 (λ (k : ℕ). ‵ (New n′ k)) (ln ∙ long-new (suc t) z good) refl $
-          land-last ! (from ! (stop !)) (store ! 8 refl (LL.lawful TT.the-type TT′.the-laws 𝓤 H A W .typed r (u ∷ []) is .0)) $
-          rewrite ! 8 (λ (y : Val). ‵ (fat fullShare TT′.mir l₁₀ 0 y)) (ap only (TT′.lowers .val-is r (u ∷ []) is)) refl $
-          forget ! 10 refl $ forget ! 11 refl $ forget ! 12 refl $ forget ! 13 refl $
-          -- the state after the turn
-          move ! (0 ∷ 9 ∷ []) $ join ! $ move ! (2 ∷ 0 ∷ []) $ join ! $ move ! (7 ∷ 0 ∷ []) $ join ! $
-          use0 W (raw (fact 𝓤 (Good (r .left) (record { turn = r; old = zs .1 .1 .1 .0; new = n′; marks = m′ })))) (factI 𝓤 (Good (r .left) (record { turn = r; old = zs .1 .1 .1 .0; new = n′; marks = m′ })) (emp 𝓤) (good-next t z good n′ m′ pass-done ln lm r (zs .1 .1 .1 .0) e .0, refl, subst (λ (us : List Val). Is S r us) (TT′.lowers .val-is r (u ∷ []) is) is)) $ join ! $
-          use1 W (some (λ (y : St). Var (r .left) y)) (exI 𝓤 (λ (y : St). mean 𝓤 H A (Var (r .left) y)) (record { turn = r; old = zs .1 .1 .1 .0; new = n′; marks = m′ })) $
-          keep ! (0 ∷ 7 ∷ 8 ∷ 9 ∷ 10 ∷ 11 ∷ 12 ∷ 13 ∷ 14 ∷ 15 ∷ 16 ∷ 17 ∷ 18 ∷ 19 ∷ 20 ∷ 21 ∷ 22 ∷ 23 ∷ 24 ∷ 25 ∷ 26 ∷ 27 ∷ 28 ∷ 29 ∷ 30 ∷ 31 ∷ 32 ∷ 33 ∷ 34 ∷ 35 ∷ 36 ∷ 6 ∷ 4 ∷ 2 ∷ 1 ∷ 37 ∷ 38 ∷ 39 ∷ 40 ∷ 41 ∷ 42 ∷ 43 ∷ 44 ∷ 45 ∷ 46 ∷ 47 ∷ 48 ∷ 49 ∷ 50 ∷ 51 ∷ 52 ∷ 53 ∷ 54 ∷ 55 ∷ 56 ∷ 57 ∷ 58 ∷ 59 ∷ 60 ∷ 61 ∷ 62 ∷ 63 ∷ 64 ∷ 65 ∷ 66 ∷ []) $
-          again ! _<_ Inv (suc t) (r .left) (lower (z .turn .left) t (r .left) (good .1) (good-next t z good n′ m′ pass-done ln lm r (zs .1 .1 .1 .0) e .1))))))))))))
-
-      turn : (t : ℕ) → Sq W (Inv t) (runs (𝓣 .C) (𝓣 .Λ) En mir.turn-1 (anyQ (afterTurn 𝓤 H (Below 𝓤 H A _<_ Inv t) Left)))
+      turn : (t : ℕ) → Sq W (Inv (⋆ 𝓤 H A Dies) t) (runs (𝓣 .C) (𝓣 .Λ) En mir.turn-1 (anyQ (afterTurn 𝓤 H (Below 𝓤 H A _<_ (Inv (⋆ 𝓤 H A Dies)) t) Left)))
       unfolding afterTurn
       turn zero =
-          pick ! (λ z. split ! $ heard ! (Good zero z) (λ good. split ! $ move ! (1 ∷ []) $ split ! $ move ! (1 ∷ []) $ split ! $
+          unaside ! (some (λ (z : St). Var zero z) ∷ Same) Dies $ pick ! (λ z. split ! $ heard ! (Good zero z) (λ good. split ! $ move ! (1 ∷ []) $ split ! $ move ! (1 ∷ []) $ split ! $
           assigns ! (bin ! (lit ! tt) (load ! (from ! (fld ! refl (stop !))) (look-in ! 3 (sub ! 0 refl (whole !)))) tt) (from ! (stop !)) (init ! 20 refl (tt, tt)) $
           rewrite ! 20 (λ (y : Bool). ‵ (fat fullShare tyBool l₁₂ 0 (vbool y))) (le-ltb 0 (z .turn .left) (none (z .turn .left) (good .1))) refl $
           leaves-loop ! (load ! (from ! (stop !)) (look ! 20 refl)) $ exec ! (𝓣 .C) (𝓣 .Λ) En mir.t-6 (atRet En Post) $
@@ -478,64 +547,7 @@ module _ {M : Type 1} (𝓤 : URA M) (H : Heap 𝓤) (A : Atoms 𝓤) (W : Given
           move ! (13 ∷ 20 ∷ []) $ free1 ! $ move ! (12 ∷ 19 ∷ []) $ free1 ! $ move ! (11 ∷ 18 ∷ []) $ free1 ! $ move ! (10 ∷ 17 ∷ []) $ free1 ! $ move ! (9 ∷ 16 ∷ []) $ free1 ! $ move ! (8 ∷ 15 ∷ []) $ free1 ! $
           move ! (7 ∷ 14 ∷ []) $ free1 ! $ move ! (6 ∷ 13 ∷ []) $ free1 ! $ move ! (5 ∷ 12 ∷ []) $ free1 ! $ move ! (4 ∷ 11 ∷ []) $ free1 ! $ move ! (3 ∷ 10 ∷ []) $ free1 ! $ free0 ! $
           keep ! (5 ∷ 6 ∷ 7 ∷ 8 ∷ 2 ∷ 0 ∷ 1 ∷ []) $ by ! (exits (z .turn) (z .old) (z .new) (z .marks) (good .0 .over (good .1)) (long-old zero z good) (long-new zero z good) (long-marks zero z good) (good .2))))
-      turn (suc t) =
-          pick ! (λ z. split ! $ heard ! (Good (suc t) z) (λ good. split ! $ move ! (1 ∷ []) $ split ! $ move ! (1 ∷ []) $ split ! $
-          assigns ! (bin ! (lit ! tt) (load ! (from ! (fld ! refl (stop !))) (look-in ! 3 (sub ! 0 refl (whole !)))) tt) (from ! (stop !)) (init ! 20 refl (tt, tt)) $
-          rewrite ! 20 (λ (y : Bool). ‵ (fat fullShare tyBool l₁₂ 0 (vbool y))) (lt-ltb 0 (z .turn .left) (more t z good)) refl $
-          stays ! (load ! (from ! (stop !)) (look ! 20 refl)) $
-          -- the part of the list
-          assigns ! (bin ! (load ! (from ! (fld ! refl (stop !))) (look-in ! 3 (sub ! 4 refl (whole !)))) (lit ! tt) (record { fits = fits8 (z .turn .first) (z .turn .last) n (ordered t z good) (inside t z good) long })) (from ! (stop !)) (init ! 18 refl (tt, record { fits = fits8 (z .turn .first) (z .turn .last) n (ordered t z good) (inside t z good) long })) $
-          assigns ! (bin ! (load ! (from ! (fld ! refl (stop !))) (look-in ! 22 (sub ! 0 refl (whole !)))) (load ! (from ! (stop !)) (look ! 18 refl)) tt) (from ! (stop !)) (init ! 17 refl (tt, tt)) $
-          assigns ! (bin ! (load ! (from ! (fld ! refl (stop !))) (look-in ! 3 (sub ! 5 refl (whole !)))) (load ! (from ! (fld ! refl (stop !))) (look-in ! 3 (sub ! 4 refl (whole !)))) (ordered t z good)) (from ! (stop !)) (init ! 16 refl (tt, record { fits = fewer (z .turn .first) (z .turn .last) n (inside t z good) long })) $
-          assigns ! (addr ! (from ! (hop ! (look ! 17 refl) (stop !)))) (from ! (stop !)) (init ! 15 refl (tt, tt)) $
-          assigns ! (agg ! (and-then ! (load ! (from ! (stop !)) (look ! 15 refl)) (and-then ! (load ! (from ! (stop !)) (look ! 16 refl)) (no-more !)))) (from ! (stop !)) (init ! 14 refl (tt, (tt, (record { fits = fewer (z .turn .first) (z .turn .last) n (inside t z good) long }, tt)))) $
-          rewrite ! 14 (λ (k : ℕ). ‵ (fat fullShare part-ty l₁₈ 0 (sliceVal (l₈, k) (z .turn .last - z .turn .first)))) (begins xs (z .turn .first) (before (z .turn .first) (z .turn .last) n (ordered t z good) (inside t z good))) refl $
-          rewrite ! 14 (λ (k : ℕ). ‵ (fat fullShare part-ty l₁₈ 0 (sliceVal (l₈, place z) k))) (part-count xs (z .turn .first) (z .turn .last) (ordered t z good, inside t z good)) refl $
-          -- old is lent as it is, new and the marks to be written
-          assigns ! (addr ! (from ! (fld ! refl (hop ! (look-in ! 25 (sub ! 0 refl (whole !))) (stop !))))) (from ! (stop !)) (init ! 13 refl (tt, tt)) $
-          assigns ! (agg ! (and-then ! (load ! (from ! (stop !)) (look ! 13 refl)) (and-then ! (load ! (from ! (fld ! refl (stop !))) (look-in ! 25 (sub ! 1 refl (whole !)))) (no-more !)))) (from ! (stop !)) (init ! 12 refl (tt, (tt, (record { fits = g₄ .0 }, tt)))) $
-          assigns ! (addr ! (from ! (fld ! refl (hop ! (look-in ! 24 (sub ! 0 refl (whole !))) (stop !))))) (from ! (stop !)) (init ! 11 refl (tt, tt)) $
-          assigns ! (agg ! (and-then ! (load ! (from ! (stop !)) (look ! 11 refl)) (and-then ! (load ! (from ! (fld ! refl (stop !))) (look-in ! 24 (sub ! 1 refl (whole !)))) (no-more !)))) (from ! (stop !)) (init ! 10 refl (tt, (tt, (record { fits = g₅ .0 }, tt)))) $
-          assigns ! (addr ! (from ! (fld ! refl (hop ! (look-in ! 23 (sub ! 0 refl (whole !))) (stop !))))) (from ! (stop !)) (init ! 9 refl (tt, tt)) $
-          assigns ! (agg ! (and-then ! (load ! (from ! (stop !)) (look ! 9 refl)) (and-then ! (load ! (from ! (fld ! refl (stop !))) (look-in ! 23 (sub ! 1 refl (whole !)))) (no-more !)))) (from ! (stop !)) (init ! 8 refl (tt, (tt, (record { fits = g₆ .0 }, tt)))) $
-          rewrite ! 12 (λ (k : ℕ). ‵ (fat fullShare slice64 l₂₀ 0 (sliceVal (old .ptr) k))) (sym (long-old (suc t) z good)) refl $ rewrite ! 2 (λ (k : ℕ). ‵ (Old (z .old) k)) (sym (long-old (suc t) z good)) refl $
-          rewrite ! 10 (λ (k : ℕ). ‵ (fat fullShare mut-slice64 l₂₂ 0 (sliceVal (new .ptr) k))) (sym (long-new (suc t) z good)) refl $ rewrite ! 0 (λ (k : ℕ). ‵ (New (z .new) k)) (sym (long-new (suc t) z good)) refl $
-          rewrite ! 8 (λ (k : ℕ). ‵ (fat fullShare mut-slice32 l₂₄ 0 (sliceVal (marks .ptr) k))) (sym (long-marks (suc t) z good)) refl $ rewrite ! 1 (λ (k : ℕ). ‵ (Marks (z .marks) k)) (sym (long-marks (suc t) z good)) refl $
-          lft-new ! tt (λ β. move ! (3 ∷ 37 ∷ []) $
-          use2 W (later (some (λ (γ₁ : GName). ‵ (ShrSlice (named 1) (β ∷ []) u64 .own (x old γ₁ (z .old)) (sliceVal (old .ptr) (length (z .old)) ∷ [])) ⊛ ‵ (LentShared u64 κ₁ (β ∷ []) q₁ (old .name) (old .ptr .0) (old .ptr .1) (z .old)))))
-          (lends-shared u64 κ₁ (β ∷ []) q₁ (old .name) (old .ptr .0) (old .ptr .1) 𝓤 H A W (named 1) (named 1) (z .old)) $ await ! tt $ pick ! (λ γ₁. split ! $
-          lft-new ! tt (λ ν. move ! (4 ∷ 39 ∷ []) $
-          use2 W (later (some (λ (δ : GName). ‵ (MutSlice (named 2) (ν ∷ []) u64 .own (x new δ (z .new)) (sliceVal (new .ptr) (length (z .new)) ∷ [])) ⊛ ‵ (LentAgain u64 κ₂ (ν ∷ []) q₂ (new .name) (new .ptr .0) (new .ptr .1) δ (z .new)))))
-          (lends-again u64 κ₂ (ν ∷ []) q₂ (new .name) (new .ptr .0) (new .ptr .1) 𝓤 H A W (named 2) (named 2) (z .new)) $ await ! tt $ pick ! (λ δ. split ! $
-          lft-new ! tt (λ ξ. move ! (7 ∷ 41 ∷ []) $
-          use2 W (later (some (λ (ε : GName). ‵ (MutSlice (named 3) (ξ ∷ []) u32 .own (x marks ε (z .marks)) (sliceVal (marks .ptr) (length (z .marks)) ∷ [])) ⊛ ‵ (LentAgain u32 κ₃ (ξ ∷ []) q₃ (marks .name) (marks .ptr .0) (marks .ptr .1) ε (z .marks)))))
-          (lends-again u32 κ₃ (ξ ∷ []) q₃ (marks .name) (marks .ptr .0) (marks .ptr .1) 𝓤 H A W (named 3) (named 3) (z .marks)) $ await ! tt $ pick ! (λ ε. split ! $
-          move ! (37 ∷ []) $ use1 W (‵ Ws ⊛ ‵ Ws) (shr-slice-copy 𝓤 H A W (named 0) (α ∷ []) R .twice lent (sliceVal (l₈, 0) n ∷ [])) $ split ! $ move ! (0 ∷ 40 ∷ []) $ fsplit ! $ fsplit ! $ drop ! $ fjoin ! $
-          use2 W (later (some (λ (γ : GName). ‵ (O.ShrSlice erased (α ∷ []) R .own (lent-part l₈ z γ)) ⊛ ‵ (flft (α ∷ []) fullShare))))
-          (shs-part-same 𝓤 H A W R (α ∷ []) fullShare l₈ (λ zs b c. slice-halves 𝓤 H A W R (Is R) (shows 𝓤 H A R) (LL.vals T.the-type T′.the-laws) (LL.tells T.the-type T′.the-laws) (LL.copy T.the-type T′.the-copy 𝓤 H A W) (length zs) zs b c) 0 γ₀ xs (z .turn .first) (z .turn .last - z .turn .first)) $ await ! tt $ pick ! (λ γ. split ! $
-          fsplit ! $ feqI ! (List Val) (sliceVal (l₈, place z) (length (part z)) ∷ []) (sliceVal (l₈, place z) (length (part z)) ∷ []) refl $ fjoin ! $ fjoin ! $
-          owned ! S (Is S) (LL.makes TT.the-type TT′.the-plain 𝓤 H A) (z .turn) (TT′.lowered (z .turn) ∷ []) (good .2) $
-          move ! (1 ∷ 0 ∷ 10 ∷ 7 ∷ 4 ∷ 2 ∷ 12 ∷ 9 ∷ 6 ∷ []) $ group ! 9 $ use1 W (raw (Pass 𝓤 H A mem run .pre (to-pass z l₈ α β ν ξ γ γ₁ δ ε))) (goes-pass z l₈ α β ν ξ γ γ₁ δ ε (pass-ok t z good)) $
-          calls-at ! (fmOf 𝓤 H (W .laws) 𝓣) (Pass 𝓤 H A mem run) pass-known (to-pass z l₈ α β ν ξ γ γ₁ δ ε)
-          (and-then ! (load ! (from ! (stop !)) (look ! 16 refl)) (and-then ! (load ! (from ! (stop !)) (look ! 5 refl)) (and-then ! (load ! (from ! (stop !)) (look ! 14 refl)) (and-then ! (load ! (from ! (stop !)) (look ! 12 refl)) (and-then ! (load ! (from ! (stop !)) (look ! 10 refl)) (no-more !)))))) (λ u.
-          use1 W (later (some (λ (r : Unit {0}). ((‵ (flft (α ∷ []) fullShare) ⊛ (‵ (flft (β ∷ []) fullShare) ⊛ (‵ (flft (ν ∷ []) fullShare) ⊛ (‵ (flft (ξ ∷ []) fullShare) ⊛ ‵ ftrue)))) ⊛ ‵ (unit .own r (u ∷ []))) ⊛ raw (ensured 𝓤 H A pass.ended (pass.clauses 𝓤 H A mem run) (α ∷ [], (β ∷ [], (ν ∷ [], (ξ ∷ [], tt)))) (lent-part l₈ z γ, (z .turn, (x old γ₁ (z .old), (x new δ (z .new), (x marks ε (z .marks), tt))))) tt r)))) (id⊢ 𝓤 _) $ await ! tt $ pick ! (λ r.
-          split ! $ move ! (1 ∷ []) $ use1 W (some (λ (zs : Unit {0} × (Unit {0} × (Unit {0} × (List ℕ × (List ℕ × Unit {0}))))). ‵ (lasts pass.ended (α ∷ [], (β ∷ [], (ν ∷ [], (ξ ∷ [], tt)))) (lent-part l₈ z γ, (z .turn, (x old γ₁ (z .old), (x new δ (z .new), (x marks ε (z .marks), tt))))) zs) ⊛ raw (fact 𝓤 (board (zs .1 .1 .1 .0) (zs .1 .1 .1 .1 .0) ≡ after (z .old) (z .turn .round * 192) (passed (z .turn .at) (z .turn .first) (part z)) (board (z .new) (z .marks)))))) (id⊢ 𝓤 _) $ pick ! (λ zs.
-          split ! $ move ! (1 ∷ []) $ heard ! (board (zs .1 .1 .1 .0) (zs .1 .1 .1 .1 .0) ≡ after (z .old) (z .turn .round * 192) (passed (z .turn .at) (z .turn .first) (part z)) (board (z .new) (z .marks))) (λ e.
-          fsplit ! $ drop ! $ fsplit ! $ drop ! $ fsplit ! $ drop ! $ fsplit ! $ fsplit ! $ move ! (1 ∷ []) $ feqL ! (λ a. move ! (1 ∷ []) $ fsplit ! $ fsplit ! $ move ! (1 ∷ []) $ feqL ! (λ d.
-          move ! (3 ∷ []) $ split ! $ move ! (1 ∷ []) $ facts ! unit (Is unit) (shows 𝓤 H A unit) r (u ∷ []) (λ is.
-          land ! (from ! (stop !)) (init ! 24 refl (nothing-lawful 𝓤 H A W .typed r (u ∷ []) is .0)) $
-          split ! $ move ! (1 ∷ []) $ split ! $ move ! (1 ∷ []) $ split ! $ move ! (1 ∷ []) $ split ! $
-          move ! (3 ∷ []) $ lft-end ! tt $ move ! (0 ∷ 11 ∷ []) $
-          use2 W (later (‵ (Old (z .old) (length (z .old))) ⊛ ‵ (flft κ₁ q₁))) (shared-back u64 κ₁ (β ∷ []) q₁ (old .name) (old .ptr .0) (old .ptr .1) 𝓤 H A W (named 1) (named 1) (z .old) (subst (Room u64) (sym (long-old (suc t) z good)) g₄)) $ await ! tt $ split ! $
-          rewrite ! 0 (λ (k : ℕ). ‵ (Old (z .old) k)) (long-old (suc t) z good) refl $
-          move ! (4 ∷ []) $ lft-end ! tt $ move ! (0 ∷ 11 ∷ 8 ∷ []) $
-          use3 W (later (‵ (New (zs .1 .1 .1 .0) (length (z .new))) ⊛ ‵ (flft κ₂ q₂))) (comes-back u64 κ₂ (ν ∷ []) q₂ (new .name) (new .ptr .0) (new .ptr .1) 𝓤 H A W (named 2) (named 2) (z .new) δ (zs .1 .1 .1 .0) (subst (Room u64) (sym (long-new (suc t) z good)) g₅) a) $ await ! tt $ split ! $
-          rewrite ! 0 (λ (k : ℕ). ‵ (New (zs .1 .1 .1 .0) k)) (long-new (suc t) z good) refl $
-          move ! (4 ∷ []) $ lft-end ! tt $ move ! (0 ∷ 10 ∷ 7 ∷ []) $
-          use3 W (later (‵ (Marks (zs .1 .1 .1 .1 .0) (length (z .marks))) ⊛ ‵ (flft κ₃ q₃))) (comes-back u32 κ₃ (ξ ∷ []) q₃ (marks .name) (marks .ptr .0) (marks .ptr .1) 𝓤 H A W (named 3) (named 3) (z .marks) ε (zs .1 .1 .1 .1 .0) (subst (Room u32) (sym (long-marks (suc t) z good)) g₆) d) $ await ! tt $ split ! $
-          rewrite ! 0 (λ (k : ℕ). ‵ (Marks (zs .1 .1 .1 .1 .0) k)) (long-marks (suc t) z good) refl $
-          forget ! 15 refl $ forget ! 16 refl $ forget ! 17 refl $ forget ! 18 refl $ forget ! 19 refl $ forget ! 20 refl $ forget ! 21 refl $ forget ! 22 refl $ forget ! 23 refl $ forget ! 24 refl $ forget ! 25 refl $ forget ! 26 refl $ forget ! 27 refl $
-          keep ! (10 ∷ 4 ∷ 2 ∷ 0 ∷ 11 ∷ 12 ∷ 13 ∷ 14 ∷ 15 ∷ 16 ∷ 17 ∷ 18 ∷ 19 ∷ 20 ∷ 21 ∷ 22 ∷ 23 ∷ 24 ∷ 25 ∷ 26 ∷ 27 ∷ 28 ∷ 29 ∷ 30 ∷ 31 ∷ 32 ∷ 33 ∷ 34 ∷ 35 ∷ 36 ∷ 37 ∷ 9 ∷ 38 ∷ 7 ∷ 39 ∷ 40 ∷ 5 ∷ 3 ∷ 1 ∷ 41 ∷ 42 ∷ 43 ∷ 44 ∷ 45 ∷ 46 ∷ 47 ∷ 48 ∷ 49 ∷ 50 ∷ 51 ∷ 52 ∷ 53 ∷ 54 ∷ 55 ∷ 56 ∷ 57 ∷ 58 ∷ 59 ∷ 60 ∷ 61 ∷ 62 ∷ 63 ∷ 64 ∷ 65 ∷ 66 ∷ 67 ∷ 68 ∷ 69 ∷ []) $ halfway t z good (zs .1 .1 .1 .0) (zs .1 .1 .1 .1 .0) e a d))))))))))))))))
+      turn (suc t) = more-turns (⋆ 𝓤 H A Dies) Left t
 
     abbrev Toks : Item 𝓤
     Toks = ‵ (flft κ₀ q₀) ⊛ (‵ (flft κ₁ q₁) ⊛ (‵ (flft κ₂ q₂) ⊛ (‵ (flft κ₃ q₃) ⊛ ‵ ftrue)))
@@ -570,7 +582,8 @@ module _ {M : Type 1} (𝓤 : URA M) (H : Heap 𝓤) (A : Atoms 𝓤) (W : Given
           use0 W (raw (fact 𝓤 (Good (begin .left) Z))) (factI 𝓤 (Good (begin .left) Z) (emp 𝓤) (good-none, refl, gb)) $ join ! $
           use1 W (some (λ (y : St). Var l₀ l₁ l₂ l₃ l₄ l₅ l₆ l₇ l₈ l₉ l₁₀ l₁₁ l₁₂ l₁₃ l₁₄ l₁₅ l₁₆ l₁₇ l₁₈ l₁₉ l₂₀ l₂₁ l₂₂ l₂₃ l₂₄ l₂₅ l₂₆ l₂₇ l₂₈ α γ₀ (begin .left) y)) (exI 𝓤 (λ (y : St). mean 𝓤 H A (Var l₀ l₁ l₂ l₃ l₄ l₅ l₆ l₇ l₈ l₉ l₁₀ l₁₁ l₁₂ l₁₃ l₁₄ l₁₅ l₁₆ l₁₇ l₁₈ l₁₉ l₂₀ l₂₁ l₂₂ l₂₃ l₂₄ l₂₅ l₂₆ l₂₇ l₂₈ α γ₀ (begin .left) y)) Z) $
           first ! $ blocks ! $ keep ! (0 ∷ 11 ∷ 13 ∷ 15 ∷ 17 ∷ 19 ∷ 21 ∷ 23 ∷ 25 ∷ 27 ∷ 29 ∷ 31 ∷ 33 ∷ 35 ∷ 37 ∷ 39 ∷ 41 ∷ 43 ∷ 45 ∷ 48 ∷ 51 ∷ 53 ∷ 55 ∷ 57 ∷ 59 ∷ 61 ∷ 63 ∷ 65 ∷ 1 ∷ 2 ∷ 3 ∷ 10 ∷ 8 ∷ 7 ∷ 6 ∷ 4 ∷ 66 ∷ 64 ∷ 62 ∷ 60 ∷ 58 ∷ 56 ∷ 54 ∷ 52 ∷ 50 ∷ 49 ∷ 47 ∷ 46 ∷ 44 ∷ 42 ∷ 40 ∷ 38 ∷ 36 ∷ 34 ∷ 32 ∷ 30 ∷ 28 ∷ 26 ∷ 24 ∷ 22 ∷ 20 ∷ 18 ∷ 16 ∷ 14 ∷ 12 ∷ []) $
-          loops ! 𝓣 _<_ (Nat·lt-wfRel .wf) (Inv l₀ l₁ l₂ l₃ l₄ l₅ l₆ l₇ l₈ l₉ l₁₀ l₁₁ l₁₂ l₁₃ l₁₄ l₁₅ l₁₆ l₁₇ l₁₈ l₁₉ l₂₀ l₂₁ l₂₂ l₂₃ l₂₄ l₂₅ l₂₆ l₂₇ l₂₈ α γ₀) (turn l₀ l₁ l₂ l₃ l₄ l₅ l₆ l₇ l₈ l₉ l₁₀ l₁₁ l₁₂ l₁₃ l₁₄ l₁₅ l₁₆ l₁₇ l₁₈ l₁₉ l₂₀ l₂₁ l₂₂ l₂₃ l₂₄ l₂₅ l₂₆ l₂₇ l₂₈ α γ₀) (begin .left)))
+          aside ! (some (λ (y : St). Var l₀ l₁ l₂ l₃ l₄ l₅ l₆ l₇ l₈ l₉ l₁₀ l₁₁ l₁₂ l₁₃ l₁₄ l₁₅ l₁₆ l₁₇ l₁₈ l₁₉ l₂₀ l₂₁ l₂₂ l₂₃ l₂₄ l₂₅ l₂₆ l₂₇ l₂₈ α γ₀ (begin .left) y) ∷ Same l₀ l₁ l₂ l₃ l₄ l₅ l₆ l₇ l₈ l₉ l₁₀ l₁₁ l₁₂ l₁₃ l₁₄ l₁₅ l₁₆ l₁₇ l₁₈ l₁₉ l₂₀ l₂₁ l₂₂ l₂₃ l₂₄ l₂₅ l₂₆ l₂₇ l₂₈ α γ₀) (Dies l₀ l₁ l₂ l₃ l₄ l₅ l₆ l₇ l₈ l₉ l₁₀ l₁₁ l₁₂ l₁₃ l₁₄ l₁₅ l₁₆ l₁₇ l₁₈ l₁₉ l₂₀ l₂₁ l₂₂ l₂₃ l₂₄ l₂₅ l₂₆ l₂₇ l₂₈ α γ₀) $
+          loops ! 𝓣 _<_ (Nat·lt-wfRel .wf) (Inv l₀ l₁ l₂ l₃ l₄ l₅ l₆ l₇ l₈ l₉ l₁₀ l₁₁ l₁₂ l₁₃ l₁₄ l₁₅ l₁₆ l₁₇ l₁₈ l₁₉ l₂₀ l₂₁ l₂₂ l₂₃ l₂₄ l₂₅ l₂₆ l₂₇ l₂₈ α γ₀ (⋆ 𝓤 H A (Dies l₀ l₁ l₂ l₃ l₄ l₅ l₆ l₇ l₈ l₉ l₁₀ l₁₁ l₁₂ l₁₃ l₁₄ l₁₅ l₁₆ l₁₇ l₁₈ l₁₉ l₂₀ l₂₁ l₂₂ l₂₃ l₂₄ l₂₅ l₂₆ l₂₇ l₂₈ α γ₀))) (turn l₀ l₁ l₂ l₃ l₄ l₅ l₆ l₇ l₈ l₉ l₁₀ l₁₁ l₁₂ l₁₃ l₁₄ l₁₅ l₁₆ l₁₇ l₁₈ l₁₉ l₂₀ l₂₁ l₂₂ l₂₃ l₂₄ l₂₅ l₂₆ l₂₇ l₂₈ α γ₀) (begin .left)))
 
     walks-whole : Is (ShrSlice (named 0) κ₀ u8) schedule (v₃ ∷ []) → Is (MutSlice (named 1) κ₁ u64) old (v₄ ∷ []) → Is (MutSlice (named 2) κ₂ u64) new (v₅ ∷ []) → Is (MutSlice (named 3) κ₃ u32) marks (v₆ ∷ [])
         → ent 𝓤 (onEntry 𝓤 H A walk.signature κs qs args vals) (WpFn 𝓤 H (𝓣 .C) (𝓣 .Λ) code.function (m ∷ vb ∷ vj ∷ v₃ ∷ v₄ ∷ v₅ ∷ v₆ ∷ []) Post)
