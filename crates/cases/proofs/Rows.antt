@@ -19,7 +19,6 @@ use Rattle.windows.proofs.Laying.{arcs-within}
 use Rattle.windows.proofs.Limits.{sheet-laid}
 use Rattle.calls.specs.Ask as ask
 use Rattle.calls.proofs.Ask.Earliest.{table-earliest}
-use Rattle.calls.proofs.Ask.Unique.{otherwise-none}
 use Rattle.calls.specs.Ends as ends
 use Rattle.calls.proofs.Ends.Found.{range-runs, never-runs}
 use Rattle.cases.specs.Cases.{zeros, inRoom}

@@ -14,6 +14,7 @@ use lib.IntN.{ℤ, pos, negsuc}
 use lib.Signed.{mag, ltZ, leZ}
 use mir.Syntax.{w32}
 use mir.Val.{ofZ}
+use Rattle.tables.proofs.Refusing.{unless-none}
 use Rattle.tables.specs.Sheets.{Sheet, noWindow, places, inLimit, absent, or, admits, all, within, sized, scheduled, admitted, unless, refusal}
 
 -- ---- conjunctions
@@ -168,10 +169,10 @@ pub record Admitted (s : Sheet) : Type 0 where
   pub values : (k : ℕ) → k < places (s .n) (s .m) → admits (getD (s .tables) k (pos 0)) ≡ true
 
 pub passes : (a b c : Bool) → unless a 4 (unless b 5 (unless c 6 0)) ≡ 0 → (a ≡ true) × (b ≡ true) × (c ≡ true)
-passes true true true e = (refl, refl, refl)
-passes true true false e = absurd (omega arith)
-passes true false c e = absurd (omega arith)
-passes false b c e = absurd (omega arith)
+passes a b c e =
+    let x = unless-none a 4 (unless b 5 (unless c 6 0)) (omega arith) e in
+    let y = unless-none b 5 (unless c 6 0) (omega arith) (x .1) in
+    (x .0, y .0, unless-none c 6 0 (omega arith) (y .1) .0)
 
 -- a sheet that is not refused
 pub accepted : (s : Sheet) → refusal s ≡ 0 → Admitted s

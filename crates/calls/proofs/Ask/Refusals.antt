@@ -1,23 +1,18 @@
 -- The refusals in their order, and what a call that is not refused may rest on.
-use mathlib.Core.Path.{_≡_, refl, sym, ap, _∙_}
+use mathlib.Core.Path.{_≡_}
 use mathlib.Core.Logic.{_≢_}
-use mathlib.Core.Bool.{Bool, true, false}
+use mathlib.Core.Bool.{true, false}
 use mathlib.Core.List.{List}
-use Prim.Native.Nat.{ℕ, zero, suc, _*_, _≤_}
+use Prim.Native.Nat.{ℕ, _*_, _≤_}
 use native.Mathlib.Omega.{arith}
 use borrow.Author.Tests.{leb-true}
 use lib.Dec.{leb}
 use lib.ListN.{length}
-use Rattle.tables.specs.Sheets.{Sheet, within, unless, refusal, otherwise}
+use Rattle.tables.specs.Sheets.{Sheet, within, unless, refusal}
+use Rattle.tables.proofs.Refusing.{unless-none, otherwise-none, otherwise-first}
 use Rattle.tables.proofs.Laws.{both, within-is, Admitted, accepted}
 use Rattle.windows.specs.Arcs.{nodes}
 use Rattle.calls.specs.Ask.{timed, roomy, askRefusal}
-
-passes : (a : ℕ) (b c : Bool) → otherwise a (unless b 10 (unless c 9 0)) ≡ 0 → (a ≡ 0) × (b ≡ true) × (c ≡ true)
-passes zero true true e = (refl, refl, refl)
-passes zero true false e = absurd (omega arith)
-passes zero false c e = absurd (omega arith)
-passes (suc a) b c e = absurd (omega arith)
 
 module _ (s : Sheet) (p q : ℕ) (plan circuit : List ℕ) where
   -- no refusal fits
@@ -30,9 +25,10 @@ module _ (s : Sheet) (p q : ℕ) (plan circuit : List ℕ) where
 
   pub granted : askRefusal s p q plan circuit ≡ 0 → Granted
   granted e =
-      let a = passes (refusal s) (timed p q) (roomy s plan circuit) e in
-      let t = both (within 1000 q) (leb p 1000000000) (a .1) in
-      let r = both (leb (nodes s) (length plan)) (leb (4 * nodes s) (length circuit)) (a .2) in
+      let a = otherwise-none (refusal s) (unless (timed p q) 10 (unless (roomy s plan circuit) 9 0)) e in
+      let b = unless-none (timed p q) 10 (unless (roomy s plan circuit) 9 0) (omega arith) (a .1) in
+      let t = both (within 1000 q) (leb p 1000000000) (b .0) in
+      let r = both (leb (nodes s) (length plan)) (leb (4 * nodes s) (length circuit)) (unless-none (roomy s plan circuit) 9 0 (omega arith) (b .1) .0) in
       record {
         sheet-ok = accepted s (a .0);
         q-small = within-is 1000 q (t .0) .1;
@@ -42,11 +38,7 @@ module _ (s : Sheet) (p q : ℕ) (plan circuit : List ℕ) where
       }
 
   pub refused-sheet : (k : ℕ) → k ≡ refusal s → k ≢ 0 → askRefusal s p q plan circuit ≡ k
-  refused-sheet k e some = ap (λ (x : ℕ). otherwise x (unless (timed p q) 10 (unless (roomy s plan circuit) 9 0))) (sym e) ∙ go k some
-    where
-      go : (k : ℕ) → k ≢ 0 → otherwise k (unless (timed p q) 10 (unless (roomy s plan circuit) 9 0)) ≡ k
-      go zero some = absurd (some refl)
-      go (suc k) some = refl
+  refused-sheet k e some = otherwise-first (refusal s) k (unless (timed p q) 10 (unless (roomy s plan circuit) 9 0)) e some
 
   pub refused-10 : 0 ≡ refusal s → timed p q ≡ false → askRefusal s p q plan circuit ≡ 10
   refused-10 e t = rw (← e, t)

@@ -13,7 +13,8 @@ use lib.Signed.{_≤ℤ_}
 use Rattle.theory.specs.Arcs.{Plan, table, Rounds}
 use Rattle.theory.proofs.Rounds.{table-least, still-plan}
 use Rattle.theory.proofs.Loops.{rounds-same, rounds-few}
-use Rattle.tables.specs.Sheets.{Sheet, refusal, otherwise}
+use Rattle.tables.specs.Sheets.{Sheet, refusal}
+use Rattle.tables.proofs.Refusing.{otherwise-none}
 use Rattle.tables.proofs.Laws.{Admitted, accepted}
 use Rattle.windows.specs.Windows.{Event}
 use Rattle.windows.specs.Inequalities.{Times, Solves}
@@ -24,11 +25,6 @@ use Rattle.windows.proofs.Laying.{arcs-within}
 use Rattle.windows.proofs.Steps.{never-both}
 use Rattle.calls.specs.Ask as ask
 use Rattle.calls.specs.Ask.{Answer, number, askRefusal, Earliest, Accepts, Outcome}
-
--- a first refusal of 0 leaves the sheet admitted
-pub otherwise-none : (a b : ℕ) → otherwise a b ≡ 0 → a ≡ 0
-otherwise-none zero b e = refl
-otherwise-none (suc a) b e = absurd (omega arith)
 
 -- every place below N is the node of an event at a position
 pub node-at : (s : Sheet) → 0 < s .n → (v : ℕ) → v < nodes s → (g e : ℕ) × (g < s .positions) × (e < s .n) × (node s (suc g) (suc e) ≡ v)
@@ -85,7 +81,7 @@ parts-same n xs ys long front back =
 module _ (s : Sheet) (p q : ℕ) (plan₀ circuit₀ : List ℕ) where
   -- what is known where no refusal fits
   admitted : askRefusal s p q plan₀ circuit₀ ≡ 0 → Admitted s
-  admitted e = accepted s (otherwise-none (refusal s) _ e)
+  admitted e = accepted s (otherwise-none (refusal s) _ e .0)
 
   -- THEOREM: two outcomes of Ask are equal: the number, the rounds, the plan's buffer and, unless it is a refutation, the circuit's buffer
   pub outcome-same : (a b : Answer) (plan circuit plan′ circuit′ : List ℕ) → Outcome s p q plan₀ circuit₀ a plan circuit → Outcome s p q plan₀ circuit₀ b plan′ circuit′
