@@ -1,7 +1,7 @@
 -- Answers in numbers are the calls' answers.
-use mathlib.Core.Path.{_≡_, refl, sym, ap, _∙_, subst}
+use mathlib.Core.Path.{_≡_, refl, sym, subst}
 use mathlib.Core.List.{List, [], _∷_}
-use Prim.Native.Nat.{ℕ, _≤_}
+use Prim.Native.Nat.{ℕ}
 use native.Mathlib.Omega.{arith}
 use Rattle.sheet.specs.Answers.{Answer}
 use Rattle.reader.specs.Answers.{answerRead}
@@ -13,7 +13,7 @@ use Rattle.ends.specs.declared.High.{High}
 use Rattle.ends.specs.declared.High.the-variants as high
 use Rattle.ends.specs.declared.Ended.{Ended}
 use Rattle.ends.specs.declared.Ended.the-variants as ended
-use Rattle.answers.specs.Answers.{Given, given, answerAsked, answerFound, answerEnded}
+use Rattle.answers.specs.Answers.{Given, answerAsked, answerFound, answerEnded}
 use Rattle.answers.specs.declared.Answered.{Answered}
 
 abbrev three : ℕ → ℕ → ℕ → Answered

@@ -4,7 +4,7 @@ use mathlib.Core.List.{List}
 use Prim.Native.Nat.{ℕ, suc, _<_}
 use native.Mathlib.Omega.{arith}
 use native.Mathlib.Decide.{decLt}
-use Rattle.theory.specs.Arcs.{table, Still, Rounds}
+use Rattle.theory.specs.Arcs.{Still, Rounds}
 use Rattle.tables.specs.Sheets.{Sheet}
 use Rattle.tables.proofs.Laws.{Admitted}
 use Rattle.windows.specs.Arcs.{nodes, arcs}

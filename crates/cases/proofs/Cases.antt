@@ -2,15 +2,15 @@
 -- its rounds, its plans and its circuits.
 use mathlib.Core.Path.{_≡_, refl}
 use mathlib.Core.Logic.{inl, inr}
-use mathlib.Core.List.{List, [], _∷_}
-use Prim.Native.Nat.{ℕ, _≤_, _<_}
+use mathlib.Core.List.{[], _∷_}
+use Prim.Native.Nat.{ℕ}
 use native.Mathlib.Omega.{arith}
 use native.Mathlib.Nat.{eq-one-of-dvd-one, dvd-mod-iff}
 use Rattle.theory.specs.Arcs.{most, table}
 use Rattle.theory.specs.Ends.{Lowest, open-end, up-to, at-zero, above-zero, no-limit, limit, single, double}
-use Rattle.tables.specs.Sheets.{Sheet, all, sized, scheduled, admitted, refusal}
+use Rattle.tables.specs.Sheets.{all, sized, scheduled, admitted, refusal}
 use Rattle.windows.specs.Windows.{A0, B0, A1, B1}
-use Rattle.windows.specs.Arcs.{windows, arcs, nodes}
+use Rattle.windows.specs.Arcs.{windows, arcs}
 use Rattle.windows.proofs.Laying.{arcs-within}
 use Rattle.cases.specs.Cases.{five-eight, sample, halves, crossed, nine-eight, bare, stopped, order-ab, step, accepts, refutes, finds, lacks-one, lacks-two, cases, Says, AllSay}
 use Rattle.cases.proofs.Tests.{keeps, stands, rounds-none, rounds-next, fresh, distinct, smallest, valid, leads, circles, circles-is}

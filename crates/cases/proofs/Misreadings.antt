@@ -1,8 +1,7 @@
 -- "Updating the table while a round still reads it: the plan comes out the same, but the rounds can come out fewer." On a chain of three
 -- events each round hands the time on by one arc, so that two rounds are counted; a round that read its own table would hand it on to the end.
-use mathlib.Core.Path.{_≡_, refl}
-use mathlib.Core.List.{List, [], _∷_}
-use Prim.Native.Nat.{ℕ, _<_}
+use mathlib.Core.Path.{refl}
+use mathlib.Core.List.{[], _∷_}
 use native.Mathlib.Omega.{arith}
 use lib.IntN.{pos}
 use Rattle.theory.specs.Arcs.{most, table}

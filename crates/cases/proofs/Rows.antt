@@ -1,21 +1,20 @@
 -- What a row of the table asks, from tests that compute.
-use mathlib.Core.Path.{_≡_, refl, sym, ap, _∙_}
-use mathlib.Core.Logic.{_⊎_, inl, inr}
-use mathlib.Core.Bool.{Bool, true, false}
-use mathlib.Core.List.{List, [], _∷_, _++_, map}
-use Prim.Native.Nat.{ℕ, zero, suc, pred, _+_, _-_, _*_, _≤_, _<_}
+use mathlib.Core.Path.{_≡_, refl}
+use mathlib.Core.Logic.{_⊎_}
+use mathlib.Core.Bool.{true}
+use mathlib.Core.List.{List, [], _++_, map}
+use Prim.Native.Nat.{ℕ, zero, suc, _+_, _-_, _*_, _≤_, _<_}
 use native.Mathlib.Omega.{arith}
 use native.Mathlib.Decide.{ℕ-discrete}
 use lib.ListN.{getD, length, drop}
-use Rattle.theory.specs.Arcs.{Arc, rise, fall, Works, table, Rounds}
-use Rattle.theory.specs.Circuits.{total, Circuit, Above, Zero, Falling, Climbing}
-use Rattle.theory.specs.Ends.{Lowest, High, open-end, up-to, Range, LowShown, at-zero, above-zero, HighShown, no-limit, limit, NoneShown, single, double}
+use Rattle.theory.specs.Arcs.{Arc, Works, table, Rounds}
+use Rattle.theory.specs.Circuits.{Above}
+use Rattle.theory.specs.Ends.{Lowest, High, open-end, up-to, Range, LowShown, HighShown, NoneShown}
 use Rattle.theory.proofs.Found.{shown-least, shown-most, closed-range, open-range, none-never}
 use Rattle.tables.specs.Sheets.{Sheet, refusal}
-use Rattle.tables.proofs.Laws.{Admitted, accepted}
+use Rattle.tables.proofs.Laws.{accepted}
 use Rattle.windows.specs.Arcs.{nodes, arcs}
-use Rattle.windows.specs.Circuits.{Step, numbers, stepArc, CircuitOf, Refutes}
-use Rattle.windows.proofs.Laying.{arcs-within}
+use Rattle.windows.specs.Circuits.{Step, numbers, stepArc, CircuitOf}
 use Rattle.windows.proofs.Limits.{sheet-laid}
 use Rattle.calls.specs.Ask as ask
 use Rattle.calls.proofs.Ask.Earliest.{table-earliest}

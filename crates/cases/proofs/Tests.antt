@@ -1,20 +1,18 @@
 -- Tests that compute, for sheets that are written out: a test that comes out true shows what it tests.
-use mathlib.Core.Path.{_≡_, refl, sym, ap, _∙_}
-use mathlib.Core.Logic.{_≢_, _⊎_, inl, inr}
+use mathlib.Core.Path.{_≡_, refl, sym, _∙_}
+use mathlib.Core.Logic.{inl, inr}
 use mathlib.Core.Bool.{Bool, true, false, not, _&&_}
 use mathlib.Core.List.{List, [], _∷_, map, List·Memᴰ, List·Memᴰ·not-nil, List·Memᴰ·cases-cons}
-use Prim.Native.Nat.{ℕ, zero, suc, pred, _+_, _*_, _≤_, _<_}
+use Prim.Native.Nat.{ℕ, zero, suc, _+_}
 use native.Mathlib.Omega.{arith}
 use native.Mathlib.Decide.{ℕ-discrete, decLt}
-use borrow.Author.Tests.{leb-true, eqb-true, eqb-false, eq-eqb}
+use borrow.Author.Tests.{leb-true, eqb-true, eq-eqb}
 use lib.Dec.{leb, eqb}
-use lib.ListN.{getD, length}
-use Rattle.theory.specs.Arcs.{Arc, _∈_, rise, fall, Plan, table, Still, Rounds, Within}
-use Rattle.theory.specs.Circuits.{Fresh, Distinct, Walk, departures, Circuit, Smallest, FirstSmallest}
+use Rattle.theory.specs.Arcs.{Arc, rise, fall, Plan, table, Still, Rounds, Within}
+use Rattle.theory.specs.Circuits.{Fresh, Distinct, Walk, departures, Smallest}
 use Rattle.theory.proofs.Rounds.{still-later}
 use Rattle.tables.specs.Sheets.{Sheet, absent, within}
 use Rattle.tables.proofs.Laws.{both, within-is}
-use Rattle.windows.specs.Windows.{Event}
 use Rattle.windows.specs.Arcs.{arcs}
 use Rattle.windows.specs.Circuits.{Step, limit, stepArc, Valid, AllValid, CircuitOf}
 use Rattle.windows.proofs.Listed.{absent-some}

@@ -1,9 +1,9 @@
 -- "Sheets tried by hand": the rows of document 01's table that are marked with a star, in its order, and what each of them says.
 use mathlib.Core.Path.{_≡_}
 use mathlib.Core.List.{List, [], _∷_, _++_, map}
-use Prim.Native.Nat.{ℕ, zero, suc, _+_, _-_, _*_, _<_}
+use Prim.Native.Nat.{ℕ, _+_, _-_, _*_}
 use lib.ListN.{length, set, replicate}
-use lib.IntN.{ℤ, pos, negsuc}
+use lib.IntN.{ℤ, pos}
 use Rattle.theory.specs.Circuits.{total, ups, downs, forths, backs}
 use Rattle.theory.specs.Arcs.{rise, fall}
 use Rattle.theory.specs.Ends.{High, open-end, up-to}

@@ -1,24 +1,21 @@
 -- From what the search leaves to the outcome of Ends: circuits handed over, the range named, or nothing works.
-use mathlib.Core.Path.{_≡_, refl, sym, ap, _∙_, subst}
-use mathlib.Core.Logic.{_⊎_, inl, inr, _≢_}
-use mathlib.Core.Bool.{Bool, true, false}
+use mathlib.Core.Path.{_≡_, refl, ap, _∙_, subst}
+use mathlib.Core.Logic.{_⊎_, inl, inr}
 use mathlib.Core.List.{List, []}
-use Prim.Native.Nat.{ℕ, zero, suc, _-_, _*_, _≤_}
+use Prim.Native.Nat.{ℕ, _-_, _*_, _≤_}
 use native.Mathlib.Omega.{arith}
 use native.Mathlib.Nat.{mul-le-mul-right}
-use borrow.Author.Tests.{leb-true}
-use lib.Dec.{leb}
 use lib.ListN.{length}
 use Rattle.theory.specs.Arcs.{Works}
-use Rattle.theory.specs.Ends.{High, open-end, up-to, no-limit}
+use Rattle.theory.specs.Ends.{open-end, up-to, no-limit}
 use Rattle.theory.proofs.Found.{none-never, closed-range, open-range}
-use Rattle.tables.specs.Sheets.{Sheet, refusal, otherwise, unless}
-use Rattle.tables.proofs.Laws.{Admitted, accepted, both}
+use Rattle.tables.specs.Sheets.{Sheet, refusal}
+use Rattle.tables.proofs.Laws.{Admitted, accepted}
 use Rattle.windows.specs.Arcs.{nodes, arcs}
 use Rattle.windows.specs.Circuits.{CircuitOf}
 use Rattle.windows.proofs.Limits.{sheet-laid, nodes-few}
 use Rattle.calls.specs.Ends as ends
-use Rattle.calls.specs.Ends.{roomy, endsRefusal, Holds, Outcome}
+use Rattle.calls.specs.Ends.{endsRefusal, Holds, Outcome}
 use Rattle.search.specs.Copies.{copied, Fits}
 use Rattle.search.specs.Climbs.{Held, heldArcs, NoneHeld}
 use Rattle.search.specs.Searches.{Stands, Rests, Overhead, Descends, Fresh, Climbs}

@@ -4,7 +4,7 @@
 use search::Climbed;
 use search::Descended;
 use search::Stand;
-use search::copies::copy;
+use search::buffers::copy;
 ghost use mathlib.Core.Path.{_≡_};
 ghost use mathlib.Core.Bool.{_&&_};
 ghost use Prim.Native.Nat.{_*_, _≤_};

@@ -1,16 +1,15 @@
 -- How long the lines are, whatever the numbers in them.
-use mathlib.Core.Path.{_≡_, refl, sym, ap, _∙_}
-use mathlib.Core.List.{List, [], _∷_, _++_, map}
-use Prim.Native.Nat.{ℕ, zero, suc, _+_, _-_, _*_, _≤_, _<_}
+use mathlib.Core.Path.{_≡_}
+use mathlib.Core.List.{List, [], _∷_, map}
+use Prim.Native.Nat.{ℕ, zero, suc, _+_, _-_, _*_, _≤_}
 use native.Mathlib.Omega.{arith}
-use native.Mathlib.Nat.{mul-le-mul-right, mul-le-mul-left}
-use lib.ListN.{getD, length, take, drop, length-append, length-take}
-use lib.Seq.{length-take-le}
-use Rattle.text.specs.Text.{decimal, space, feed}
+use native.Mathlib.Nat.{mul-le-mul-right}
+use lib.ListN.{getD, length, take, drop, length-append}
+use Rattle.text.specs.Text.{decimal, feed}
 use Rattle.text.proofs.Values.{decimal-most}
 use Rattle.theory.specs.Ends.{High, open-end, up-to}
 use Rattle.lines.specs.Lines.{high-word, following, line, fraction, highSpelled, numbersLine}
-use Rattle.lines.specs.Buffers.{fourLine, arcLines, circuitText, highText, timesLines, planText, endsText}
+use Rattle.lines.specs.Buffers.{fourLine, arcLines, circuitText, highText, timesLines}
 
 -- a line of one, two, three and four words
 pub line-one : (a : List ℕ) → length (line a []) ≡ length a + 1

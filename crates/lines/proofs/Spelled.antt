@@ -1,20 +1,19 @@
 -- The lines by what the buffers hold are the lines of the report: a circuit's arcs, and the times of a plan.
 use mathlib.Core.Path.{_≡_, refl, sym, ap, ap₂, _∙_}
 use mathlib.Core.List.{List, [], _∷_, _++_, map, append-assoc, append-nil}
-use Prim.Native.Nat.{ℕ, zero, suc, pred, _+_, _-_, _*_, _%_, _≤_, _<_}
+use Prim.Native.Nat.{ℕ, zero, suc, pred, _+_, _-_, _*_, _≤_, _<_}
 use native.Mathlib.Omega.{arith}
 use native.Mathlib.Nat.{mod-eq-of-lt, mul-le-mul-right}
 use lib.ListN.{getD, length, take, drop, length-drop}
 use lib.Seq.{take-suc, getD-drop, drop-drop}
 use Rattle.text.specs.Text.{decimal}
-use Rattle.theory.specs.Ends.{High, open-end, up-to}
 use Rattle.theory.proofs.Turning.{map-append}
 use Rattle.tables.specs.Sheets.{Sheet}
-use Rattle.windows.specs.Arcs.{node, nodes, oneTo, each}
+use Rattle.windows.specs.Arcs.{nodes, oneTo, each}
 use Rattle.windows.specs.Circuits.{Step, numbers}
 use Rattle.windows.proofs.Listed.{each-more}
-use Rattle.lines.specs.Lines.{line, arcLine, circuitLines, highLines, numbersLine, timesAt, planLines, high-word, plan-word}
-use Rattle.lines.specs.Buffers.{fourLine, arcLines, circuitText, highText, timesLines, planText}
+use Rattle.lines.specs.Lines.{line, arcLine, numbersLine, timesAt, planLines, plan-word}
+use Rattle.lines.specs.Buffers.{fourLine, arcLines, timesLines, planText}
 
 -- ---- the arcs
 

@@ -1,7 +1,7 @@
 -- The lines of a report (document 01, "The report"): its words are fixed byte strings, "Words and numbers are parted by one space" and
 -- "Each line ends in one line feed".
 use mathlib.Core.List.{List, [], _∷_, _++_, map}
-use Prim.Native.Nat.{ℕ, zero, suc}
+use Prim.Native.Nat.{ℕ}
 use lib.ListN.{getD, length}
 use Rattle.text.specs.Text.{decimal, space, feed}
 use Rattle.theory.specs.Ends.{High, open-end, up-to}

@@ -1,7 +1,7 @@
 // The lines of a report, put one after the other into a buffer: each function puts its text from a place on and gives the place after it.
 // This crate knows how numbers, arcs, circuits, plans and refusals are spelled; it knows no call that gives them.
 // It renders the lines of document 01's "The report".
-ghost use mathlib.Core.List.{[], _∷_, map};
+ghost use mathlib.Core.List.{_∷_, map};
 ghost use Prim.Native.Nat.{_+_, _*_, _≤_, _<_};
 ghost use lib.ListN.{length, take, drop};
 ghost use Rattle.text.specs.Text.{decimal, space, Puts};

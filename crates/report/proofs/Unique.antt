@@ -1,8 +1,8 @@
 -- Two reports of the same bytes are equal, but for the lines of the circuits and which of the two forms of "none" they show.
 use mathlib.Core.Path.{_≡_, refl, sym, ap, ap₂, subst, _∙_}
-use mathlib.Core.Logic.{_⊎_, inl, inr}
+use mathlib.Core.Logic.{inl, inr}
 use mathlib.Core.List.{List, [], _∷_, _++_, map}
-use Prim.Native.Nat.{ℕ, zero, suc, _+_, _*_, _≤_, _<_}
+use Prim.Native.Nat.{ℕ, zero, suc, _+_, _≤_, _<_}
 use native.Mathlib.Omega.{arith}
 use lib.ListN.{getD, length, take, drop}
 use Rattle.text.specs.Text.{decimal}
@@ -27,7 +27,7 @@ use Rattle.calls.specs.Ask.{Earliest}
 use Rattle.calls.proofs.Ask.Unique.{plan-table}
 use Rattle.lines.specs.Lines.{ends-word, low-word, none-word, first-word, second-word, plan-word, line, fraction, highSpelled, circuitLines, highLines, numbersLine, timesAt, planLines}
 use Rattle.telling.specs.Tells.{TellsEnds, TellsNone, Tells}
-use Rattle.report.specs.Report.{judged, Reports, room, Answer, number, Outcome}
+use Rattle.report.specs.Report.{judged, Reports, Answer, number, Outcome}
 use Rattle.report.specs.Report as report
 
 -- maps that agree from 1 to n make the same list of these

@@ -1,12 +1,11 @@
 -- What Ask answers to the search: it works, or a circuit is above zero. A refusal is out of the question.
 use mathlib.Core.Path.{_≡_, sym, ap, _∙_, subst}
 use mathlib.Core.List.{List}
-use Prim.Native.Nat.{ℕ, zero, _-_, _*_}
+use Prim.Native.Nat.{ℕ, _-_, _*_}
 use native.Mathlib.Omega.{arith}
 use native.Mathlib.Nat.{mul-le-mul-right}
 use lib.ListN.{length, drop, length-append, length-drop}
-use Rattle.theory.specs.Arcs.{Works}
-use Rattle.tables.specs.Sheets.{Sheet, refusal}
+use Rattle.tables.specs.Sheets.{Sheet}
 use Rattle.tables.proofs.Laws.{Admitted, accepted}
 use Rattle.windows.specs.Circuits.{numbers, stepsIn}
 use Rattle.windows.proofs.Endless.{meaning}

@@ -1,10 +1,10 @@
 // The climb to the lowest cycle time and the descent to the highest: each step goes to the limit of the circuit that refutes.
 // This crate knows where the search stands, with a circuit that led there; it knows no answer of Ends.
 // It renders the limits of document 01's "Ends", which are the ends.
-pub mod copies;
+pub mod buffers;
 
 use ask::Asked;
-use copies::copy;
+use buffers::copy;
 use limits::Climb;
 use limits::Weight;
 use limits::next_high;

@@ -8,7 +8,7 @@ use lib.IntN.{ℤ}
 use lib.Dec.{ltb}
 use lib.ListN.{set, replicate}
 use lib.Seq.{take-all}
-use Rattle.tables.specs.Sheets.{Sheet, sheet, noWindow, inLimit, absent, or, admits, all, places, scheduled, admitted, refusal}
+use Rattle.tables.specs.Sheets.{Sheet, noWindow, inLimit, absent, or, admits, all, places, scheduled, admitted, refusal}
 use Rattle.tables.proofs.Laws.{both, Sizes, sized-yes, refused-not, yes}
 use Rattle.sheet.specs.File.{got, Window, modeAt, modesAt, put, laid, tablesOf, scheduleAt, sheetIn}
 use Rattle.sheet.proofs.Numbers.{after-got, tested-value}

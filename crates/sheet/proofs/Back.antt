@@ -11,7 +11,7 @@ use Rattle.numbers.specs.Signs.{encoded}
 use Rattle.numbers.specs.declared.Number.the-variants.{Value}
 use Rattle.numbers.proofs.Signs.{encoded-decoded}
 use Rattle.numbers.proofs.Ways.{Bytes, Stands, groups-read}
-use Rattle.tables.specs.Sheets.{Sheet, sheet, admitted}
+use Rattle.tables.specs.Sheets.{Sheet}
 use Rattle.sheet.specs.File.{got, Window, inMode, windowAt, windowsAt, modeAt, modesAt, laid, tablesOf, scheduleAt, sheetIn}
 use Rattle.sheet.specs.Written.{inGroups, records, modeNumbers, modesNumbers, sheetNumbers, written}
 use Rattle.sheet.proofs.Numbers.{after-got, tested-value}

@@ -1,11 +1,10 @@
 -- A sheet in memory (document 01, "Windows and plans", "Numbers and room").
 -- Events and positions are counted from 1 and modes and kinds from 0, as in document 01.
-use Prim.Native.Nat.{ℕ, zero, suc, _+_, _-_, _*_, _≤_}
-use mathlib.Core.Path.{_≡_}
+use Prim.Native.Nat.{ℕ, zero, suc, _+_, _-_, _*_}
 use mathlib.Core.Bool.{Bool, true, false, _&&_}
 use mathlib.Core.List.{List, [], _∷_}
 use lib.Dec.{leb, ltb, eqb}
-use lib.ListN.{getD, length, take}
+use lib.ListN.{length, take}
 use lib.IntN.{ℤ, pos, negsuc}
 
 -- "There are n events per mode, m modes and a schedule of V positions, each naming a mode." V is `positions` here.

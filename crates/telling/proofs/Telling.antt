@@ -1,9 +1,8 @@
 -- From the outcomes of the calls to what the report tells: low works, and is asked for without a refusal; the circuits have at most 192 arcs.
 use mathlib.Core.Path.{_≡_, refl, sym, ap, ap₂, _∙_, subst}
 use mathlib.Core.Logic.{_⊎_, inl, inr}
-use mathlib.Core.Bool.{true}
-use mathlib.Core.List.{List, [], _∷_, _++_, map}
-use Prim.Native.Nat.{ℕ, zero, suc, _+_, _-_, _*_, _≤_, _<_}
+use mathlib.Core.List.{List, [], _++_}
+use Prim.Native.Nat.{ℕ, _+_, _-_, _*_, _≤_, _<_}
 use native.Mathlib.Omega.{arith}
 use native.Mathlib.Nat.{mul-le-mul-right}
 use borrow.Author.Tests.{le-leb}
@@ -22,7 +21,7 @@ use Rattle.sheet.specs.File.{Part, sheetIn}
 use Rattle.sheet.specs.File as file
 use Rattle.windows.specs.Inequalities.{Runs}
 use Rattle.windows.specs.Arcs.{nodes, arcs}
-use Rattle.windows.specs.Circuits.{Step, numbers, CircuitOf}
+use Rattle.windows.specs.Circuits.{numbers, CircuitOf}
 use Rattle.windows.proofs.Limits.{nodes-few, sheet-laid}
 use Rattle.windows.proofs.Steps.{never-both}
 use Rattle.calls.specs.Ask as ask

@@ -1,12 +1,10 @@
 -- Runs of stores, one after the other, and how a number is spelled.
 use mathlib.Core.Path.{_≡_, refl, sym, ap, _∙_}
-use mathlib.Core.Bool.{Bool, true, false, cond}
 use mathlib.Core.List.{List, [], _∷_, _++_}
 use Prim.Native.Nat.{ℕ, zero, suc, _+_, _-_, _/_, _%_, _≤_, _<_}
 use native.Mathlib.Omega.{arith}
 use native.Mathlib.Numerals.{add-one}
 use borrow.Author.Tests.{lt-ltb, le-ltb}
-use lib.Dec.{ltb}
 use lib.ListN.{getD, length, set, take, length-append}
 use lib.Seq.{sets, take-suc, take-all, length-take-le}
 use Rattle.text.specs.Text.{spelled, Puts}

@@ -1,12 +1,12 @@
 -- The lowest and the highest cycle time: the climb from 0/1 and the descent from above every limit find them, with the circuits that
 -- show them, and end. What the code of Ends does is here once, over arcs and natural numbers.
-use mathlib.Core.Path.{_≡_, refl, ap}
+use mathlib.Core.Path.{_≡_, ap}
 use mathlib.Core.Logic.{_⊎_, inl, inr}
 use mathlib.Core.List.{List, []}
 use Prim.Native.Nat.{ℕ, zero, suc, _+_, _-_, _*_, _≤_, _<_}
 use native.Mathlib.Omega.{arith}
 use native.Mathlib.Nat.{mul-le-mul-left, mul-lt-mul-of-pos-left, lt-of-mul-lt-mul-left, eq-one-of-dvd-one, dvd-zero, dvd-refl}
-use native.Mathlib.Decide.{decLe, decLt}
+use native.Mathlib.Decide.{decLt}
 use Rattle.theory.specs.Arcs.{Arc, Works}
 use Rattle.theory.specs.Circuits.{Circuit, Above, Zero, Refuted, ups, downs, forths, backs, Falling, Climbing, Level, Gaining}
 use Rattle.theory.specs.Ends.{AtMost, Under, Lowest, High, open-end, up-to, Range, Never, LowShown, at-zero, above-zero, HighShown, no-limit, limit, Clash, NoneShown, single, double}

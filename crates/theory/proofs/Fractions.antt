@@ -1,10 +1,10 @@
 -- Fractions in lowest terms, how often a fraction with a small bottom can rise, and that a range determines its ends.
 use mathlib.Core.Path.{_≡_, refl, sym, ap, _∙_}
-use Prim.Native.Nat.{ℕ, zero, suc, _+_, _-_, _*_, _/_, _%_, _≤_, _<_, _∣_}
+use Prim.Native.Nat.{ℕ, zero, suc, _+_, _-_, _*_, _/_, _%_, _≤_, _<_}
 use native.Mathlib.Omega.{arith}
 use native.Mathlib.Nat.{mul-le-mul-left, le-of-mul-le-mul-left, dvd-zero, dvd-refl, dvd-add, dvd-mul-right, dvd-mod-iff, dvd-of-mul-dvd-mul-left, mul-dvd-mul-left, eq-one-of-dvd-one, mul-div-cancel', mul-one, mod-lt, pos-of-dvd-of-pos, le-div-iff-mul-le, div-lt-iff-lt-mul, div-mul-le-self, mul-div-cancel, div-one}
 use native.Mathlib.Decide.{decLe, ℕ-discrete}
-use Rattle.theory.specs.Ends.{AtMost, Under, Lowest, Greatest, High, open-end, up-to, Upper, HighLowest, Range}
+use Rattle.theory.specs.Ends.{AtMost, Under, Lowest, Greatest, High, open-end, up-to, Range}
 
 -- ---- a fraction of the same worth as one in lowest terms is a multiple of it: Euclid, by subtraction
 

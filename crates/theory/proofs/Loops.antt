@@ -7,7 +7,7 @@ use Prim.Native.Nat.{ℕ, zero, suc, pred, _+_, _≤_, _<_}
 use native.Mathlib.Omega.{arith}
 use native.Mathlib.Decide.{ℕ-discrete, decLt}
 use lib.ListN.{length, length-append}
-use Rattle.theory.specs.Arcs.{Arc, _∈_, rise, fall, Plan, Works, table, Still, Rounds, Within}
+use Rattle.theory.specs.Arcs.{Arc, rise, fall, Works, table, Still, Rounds, Within}
 use Rattle.theory.specs.Circuits.{Fresh, Distinct, total, Walk, departures, Circuit, Above, Refuted}
 use Rattle.theory.proofs.Pigeon.{Below, pigeon}
 use Rattle.theory.proofs.Rounds.{still-or-rises, still-plan, still-later}

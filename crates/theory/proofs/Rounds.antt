@@ -1,9 +1,9 @@
 -- The tables of rounds: a round keeps each time, meets each arc from the table before it, and a time that it raised has a cause.
 -- Everything else about tables follows from these three facts.
-use mathlib.Core.Path.{_≡_, refl, sym, ap, _∙_}
+use mathlib.Core.Path.{_≡_, refl, ap}
 use mathlib.Core.Logic.{_⊎_, inl, inr}
 use mathlib.Core.List.{List, [], _∷_, List·Memᴰ, List·Memᴰ·head, List·Memᴰ·tail}
-use Prim.Native.Nat.{ℕ, zero, suc, _+_, _-_, _*_, _≤_, _<_, max}
+use Prim.Native.Nat.{ℕ, zero, suc, _+_, _-_, _*_, _≤_, _<_}
 use native.Mathlib.Omega.{arith}
 use native.Mathlib.Decide.{ℕ-discrete, decLe, decLt, le-ind}
 use Rattle.theory.specs.Arcs.{Arc, _∈_, rise, fall, Plan, demand, only, most, table, Still, Within}

@@ -1,15 +1,15 @@
 -- A circuit's total as the cycle time changes: the cycle times that work are a range, and each circuit bounds it on one side.
 use mathlib.Core.Path.{_≡_, ap}
-use mathlib.Core.Logic.{_⊎_, inl, inr, _↔_}
+use mathlib.Core.Logic.{inl, inr}
 use mathlib.Core.List.{List, [], _∷_}
-use Prim.Native.Nat.{ℕ, zero, _+_, _-_, _*_, _≤_, _<_}
+use Prim.Native.Nat.{ℕ, _+_, _-_, _*_, _≤_, _<_}
 use native.Mathlib.Omega.{arith}
 use native.Mathlib.Nat.{mul-le-mul-left, mul-lt-mul-of-pos-left, lt-of-mul-lt-mul-left, le-of-mul-le-mul-left}
 use native.Mathlib.Decide.{decLe}
 use Rattle.theory.specs.Arcs.{Arc, rise, fall, Works, Within}
 use Rattle.theory.specs.Circuits.{total, Circuit, Above, Fits, Zero, Refuted, ups, downs, forths, backs, Falling, Climbing, Level, Gaining}
 use Rattle.theory.specs.Ends.{AtMost, Under, Clash}
-use Rattle.theory.proofs.Walks.{walk-rises, refuted-never}
+use Rattle.theory.proofs.Walks.{walk-rises}
 use Rattle.theory.proofs.Loops.{works-or-refuted}
 
 -- ---- fractions

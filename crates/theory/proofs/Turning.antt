@@ -1,11 +1,11 @@
 -- A circuit begun at another of its nodes is the same circuit; so one can begin at its smallest node.
-use mathlib.Core.Path.{_≡_, refl, sym, ap, _∙_, subst}
+use mathlib.Core.Path.{_≡_, refl, sym, ap, subst}
 use mathlib.Core.Logic.{_≢_}
 use mathlib.Core.List.{List, [], _∷_, _++_, map}
-use Prim.Native.Nat.{ℕ, _+_, _≤_, _<_}
+use Prim.Native.Nat.{ℕ, _+_, _≤_}
 use native.Mathlib.Omega.{arith}
 use native.Mathlib.Decide.{decLe}
-use lib.ListN.{length, length-append}
+use lib.ListN.{length-append}
 use Rattle.theory.specs.Arcs.{Arc}
 use Rattle.theory.specs.Circuits.{Fresh, Distinct, total, Walk, departures, Circuit, Smallest, FirstSmallest}
 use Rattle.theory.proofs.Walks.{total-append, walk-append}

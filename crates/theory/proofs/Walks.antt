@@ -1,11 +1,11 @@
 -- Walks: what they say of a plan, and how a table is made of them.
-use mathlib.Core.Path.{_≡_, refl, sym, ap, _∙_}
+use mathlib.Core.Path.{_≡_, refl, ap}
 use mathlib.Core.List.{List, [], _∷_, _++_}
-use Prim.Native.Nat.{ℕ, zero, suc, _+_, _-_, _*_, _≤_, _<_}
+use Prim.Native.Nat.{ℕ, zero, suc, _+_, _-_, _≤_, _<_}
 use native.Mathlib.Omega.{arith}
 use lib.ListN.{length, length-append}
-use Rattle.theory.specs.Arcs.{Arc, _∈_, rise, fall, Plan, table}
-use Rattle.theory.specs.Circuits.{total, Walk, Circuit, Above, Refuted}
+use Rattle.theory.specs.Arcs.{Arc, rise, fall, Plan, table}
+use Rattle.theory.specs.Circuits.{total, Walk, Refuted}
 use Rattle.theory.proofs.Rounds.{Cause, table-meets, table-cause, table-mono}
 
 pub total-append : {A : Type 0} (f : A → ℕ) (c d : List A) → total f (c ++ d) ≡ total f c + total f d

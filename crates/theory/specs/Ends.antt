@@ -1,8 +1,7 @@
 -- The lowest and highest cycle time (document 01, "Ends"), for any kind of fraction that "works".
-use Prim.Native.Nat.{ℕ, zero, suc, _+_, _-_, _*_, _≤_, _<_, _∣_}
+use Prim.Native.Nat.{ℕ, _+_, _-_, _*_, _≤_, _<_, _∣_}
 use mathlib.Core.Path.{_≡_}
-use mathlib.Core.Logic.{_⊎_}
-use mathlib.Core.List.{List, [], _∷_}
+use mathlib.Core.List.{List, []}
 use Rattle.theory.specs.Arcs.{Arc}
 use Rattle.theory.specs.Circuits.{Circuit, Zero, ups, downs, forths, backs, Falling, Climbing, Level, Gaining}
 

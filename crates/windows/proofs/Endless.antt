@@ -1,14 +1,14 @@
 -- The inequalities over the endless schedule and the arcs of one period mean the same.
 use mathlib.Core.Path.{_≡_, refl, sym, ap, _∙_}
 use mathlib.Core.Logic.{_↔_}
-use mathlib.Core.List.{List, List·Memᴰ}
+use mathlib.Core.List.{List·Memᴰ}
 use Prim.Native.Nat.{ℕ, zero, suc, pred, _+_, _-_, _*_, _/_, _%_, _≤_, _<_, max}
 use native.Mathlib.Omega.{arith}
 use native.Mathlib.Nat.{mod-lt, mod-mod, suc-mod, mod-eq-of-lt, div-eq-of-lt, div-add-mod', mod-add-div', mul-add-div-right, mul-add-mod-self-right, add-mod-right, add-div-right, mul-le-mul-right}
 use native.Mathlib.Decide.{decLt}
 use lib.IntN.{ℤ, pos, negsuc, _+ℤ_}
 use lib.Signed.{_≤ℤ_}
-use Rattle.theory.specs.Arcs.{Arc, Holds, Plan, Works}
+use Rattle.theory.specs.Arcs.{Holds, Plan, Works}
 use Rattle.tables.specs.Sheets.{Sheet}
 use Rattle.windows.specs.Windows.{Kind, A0, B0, A1, B1, Window, Event, Has, mode}
 use Rattle.windows.specs.Inequalities.{Times, Says, Keeps, Periodic, Solves, FromZero}

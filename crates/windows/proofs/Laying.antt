@@ -1,6 +1,6 @@
 -- The arcs of a sheet are laid as the theory of circuits asks: between its N nodes, with limits up to B, and crossing the period's end
 -- only from the n nodes of the last position (kind 2) and of the first (kind 3).
-use mathlib.Core.Path.{_≡_, refl, ap, _∙_}
+use mathlib.Core.Path.{_≡_, ap, _∙_}
 use Prim.Native.Nat.{ℕ, zero, suc, pred, _+_, _-_, _*_, _/_, _%_, _≤_, _<_}
 use native.Mathlib.Omega.{arith}
 use native.Mathlib.Nat.{mod-lt, mod-self, mod-eq-of-lt, div-eq-of-lt, div-self, mul-le-mul-right}
@@ -10,7 +10,7 @@ use Rattle.theory.specs.Arcs.{Arc, _∈_, Within}
 use Rattle.theory.proofs.Sums.{Slots, Laid}
 use Rattle.tables.specs.Sheets.{Sheet}
 use Rattle.windows.specs.Windows.{Kind, A0, B0, A1, B1, Window, Event, Has, mode}
-use Rattle.windows.specs.Arcs.{up, down, node, nodes, period, link, arc, arcs}
+use Rattle.windows.specs.Arcs.{up, down, node, nodes, link, arc, arcs}
 use Rattle.windows.proofs.Listed.{arcs-of}
 
 module _ (s : Sheet) (some : 0 < s .positions) where

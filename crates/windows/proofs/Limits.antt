@@ -11,9 +11,9 @@ use lib.Dec.{leb, ltb}
 use lib.ListN.{getD, length}
 use lib.IntN.{ℤ, pos, negsuc}
 use Rattle.theory.proofs.Sums.{Laid}
-use Rattle.tables.specs.Sheets.{Sheet, noWindow, place, places, inLimit, absent, or, admits}
+use Rattle.tables.specs.Sheets.{Sheet, noWindow, place, places, absent, or, admits}
 use Rattle.tables.proofs.Laws.{Admitted}
-use Rattle.windows.specs.Windows.{Kind, A0, B0, A1, B1, number, Window, Event, entry, Has, mode}
+use Rattle.windows.specs.Windows.{Kind, A0, B0, A1, B1, number, Window, Has, mode}
 use Rattle.windows.specs.Arcs.{up, down, nodes, arcs}
 use Rattle.windows.proofs.Listed.{absent-none}
 use Rattle.windows.proofs.Laying.{arcs-laid}

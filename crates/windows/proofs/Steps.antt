@@ -1,18 +1,17 @@
 -- Circuits as document 01 lists them are circuits of the sheet's arcs, and every circuit of the arcs can be so listed.
 use mathlib.Core.Path.{_≡_, refl, sym, ap, _∙_, subst}
-use mathlib.Core.Logic.{_≢_, _⊎_, inl, inr}
+use mathlib.Core.Logic.{_⊎_, inl, inr}
 use mathlib.Core.List.{List, [], _∷_, _++_, map}
-use Prim.Native.Nat.{ℕ, _≤_, _<_}
+use Prim.Native.Nat.{ℕ, _<_}
 use native.Mathlib.Omega.{arith}
 use lib.ListN.{length}
 use lib.IntN.{ℤ}
-use Rattle.theory.specs.Arcs.{Arc, _∈_, rise, fall, Plan}
+use Rattle.theory.specs.Arcs.{Arc, _∈_, rise, fall}
 use Rattle.theory.specs.Circuits.{total, Walk, departures, Circuit, FirstSmallest, Refuted}
 use Rattle.theory.proofs.Walks.{refuted-never}
 use Rattle.theory.proofs.Loops.{works-or-refuted}
-use Rattle.theory.proofs.Turning.{circuit-turn, total-turn, map-append, Split, smallest-split, split-first}
+use Rattle.theory.proofs.Turning.{circuit-turn, total-turn, map-append, smallest-split, split-first}
 use Rattle.tables.specs.Sheets.{Sheet}
-use Rattle.windows.specs.Windows.{Window, Has}
 use Rattle.windows.specs.Inequalities.{Times, Solves}
 use Rattle.windows.specs.Arcs.{nodes, arc, arcs}
 use Rattle.windows.specs.Circuits.{Step, limit, stepArc, Valid, AllValid, CircuitOf, Refutes}

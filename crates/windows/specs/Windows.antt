@@ -1,7 +1,7 @@
 -- The windows of a mode (document 01, "Windows and plans").
 use mathlib.Core.Path.{_≡_}
 use mathlib.Core.Logic.{_≢_}
-use Prim.Native.Nat.{ℕ, zero, suc, pred, _+_, _*_, _%_, _≤_, _<_}
+use Prim.Native.Nat.{ℕ, pred, _%_, _≤_}
 use lib.ListN.{getD}
 use lib.IntN.{ℤ}
 use Rattle.tables.specs.Sheets.{Sheet, noWindow, place}

@@ -1,11 +1,10 @@
 -- `answers::give` meets its contract. The invariant: the first k values are stored; the measure is what is left.
 use mathlib.Core.Path.{_≡_, refl}
-use Prim.Native.Nat.{ℕ, _-_, _≤_}
+use Prim.Native.Nat.{_-_, _≤_}
 use native.Mathlib.Omega.{arith}
 use native.Mathlib.Nat.{le-antisymm}
 use lib.ListN.{take}
 use lib.Seq.{sets}
-use borrow.Author.Needs.{needs}
 use Rattle.answers.proofs.Lists.{stores-more, stores-all, stores-length}
 use Rattle.answers.proofs.give.Statement.{statement}
 use Rattle.answers.proofs.give.Tie as tie

@@ -3,9 +3,6 @@ use Rattle.answers.proofs.Answers.{accepted-given, refuted-given}
 use borrow.Author.Needs.{needs}
 use Rattle.answers.proofs.of_asked.Statement.{statement}
 use Rattle.answers.proofs.of_asked.Tie as tie
-use Rattle.answers.proofs.of_asked.Reads as reads
-use Rattle.answers.proofs.of_asked.Lts as lts
-use Rattle.answers.proofs.answer.Reads as answer-reads
 
 -- src/lib.rt:82:27
 enum-known-asked : tie.Need-enum-known-asked

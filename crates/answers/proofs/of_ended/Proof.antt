@@ -3,11 +3,6 @@ use Rattle.answers.proofs.Answers.{found-given, none-given}
 use borrow.Author.Needs.{needs}
 use Rattle.answers.proofs.of_ended.Statement.{statement}
 use Rattle.answers.proofs.of_ended.Tie as tie
-use Rattle.answers.proofs.of_ended.Reads as reads
-use Rattle.answers.proofs.of_ended.Lts as lts
-use Rattle.answers.proofs.answer.Reads as answer-reads
-use Rattle.answers.proofs.of_found.Reads as of-found-reads
-use Rattle.answers.proofs.wide.Reads as wide-reads
 
 -- src/lib.rt:121:24
 enum-known-ended : tie.Need-enum-known-ended

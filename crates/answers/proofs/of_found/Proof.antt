@@ -3,9 +3,6 @@ use Rattle.answers.proofs.Answers.{open-given, high-given}
 use borrow.Author.Needs.{needs}
 use Rattle.answers.proofs.of_found.Statement.{statement}
 use Rattle.answers.proofs.of_found.Tie as tie
-use Rattle.answers.proofs.of_found.Reads as reads
-use Rattle.answers.proofs.of_found.Lts as lts
-use Rattle.answers.proofs.wide.Reads as wide-reads
 
 -- src/lib.rt:107:44
 enum-told : tie.Need-enum-told

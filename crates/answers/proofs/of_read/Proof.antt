@@ -3,10 +3,6 @@ use Rattle.answers.proofs.Answers.{read-given}
 use borrow.Author.Needs.{needs}
 use Rattle.answers.proofs.of_read.Statement.{statement}
 use Rattle.answers.proofs.of_read.Tie as tie
-use Rattle.answers.proofs.of_read.Reads as reads
-use Rattle.answers.proofs.of_read.Lts as lts
-use Rattle.answers.proofs.answer.Reads as answer-reads
-use Rattle.answers.proofs.wide.Reads as wide-reads
 
 -- src/lib.rt:45:22
 enum-known-read : tie.Need-enum-known-read

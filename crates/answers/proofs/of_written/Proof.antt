@@ -5,10 +5,6 @@ use Rattle.answers.proofs.Answers.{one-given}
 use borrow.Author.Needs.{needs}
 use Rattle.answers.proofs.of_written.Statement.{statement}
 use Rattle.answers.proofs.of_written.Tie as tie
-use Rattle.answers.proofs.of_written.Reads as reads
-use Rattle.answers.proofs.of_written.Lts as lts
-use Rattle.answers.proofs.answer.Reads as answer-reads
-use Rattle.answers.proofs.wide.Reads as wide-reads
 
 -- src/lib.rt:62:25
 enum-known-written : tie.Need-enum-known-written

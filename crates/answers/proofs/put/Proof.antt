@@ -4,8 +4,6 @@ use lib.Seq.{set-out}
 use borrow.Author.Needs.{needs}
 use Rattle.answers.proofs.put.Statement.{statement}
 use Rattle.answers.proofs.put.Tie as tie
-use Rattle.answers.proofs.put.Reads as reads
-use Rattle.answers.proofs.put.Lts as lts
 
 -- src/lib.rt:15:9
 mul-values : tie.Need-mul-values

@@ -1,9 +1,8 @@
 -- The table where the rounds stand still is the earliest plan of the published inequalities.
-use mathlib.Core.Path.{_≡_, refl, sym, ap, _∙_}
+use mathlib.Core.Path.{_≡_, sym, ap}
 use mathlib.Core.List.{List}
-use Prim.Native.Nat.{ℕ, zero, suc, _+_, _*_, _≤_, _<_}
+use Prim.Native.Nat.{ℕ, zero, suc, _≤_, _<_}
 use native.Mathlib.Omega.{arith}
-use native.Mathlib.Nat.{mod-eq-of-lt, mul-le-mul-right}
 use lib.ListN.{getD}
 use lib.IntN.{pos}
 use lib.Signed.{_≤ℤ_}
@@ -12,7 +11,7 @@ use Rattle.theory.proofs.Rounds.{table-least, still-plan, plan-agree}
 use Rattle.tables.specs.Sheets.{Sheet}
 use Rattle.windows.specs.Windows.{Event}
 use Rattle.windows.specs.Inequalities.{Times, Solves, FromZero}
-use Rattle.windows.specs.Arcs.{up, down, node, nodes, arcs}
+use Rattle.windows.specs.Arcs.{up, node, nodes, arcs}
 use Rattle.windows.proofs.Parts.{le-parts}
 use Rattle.windows.proofs.Endless.{plan-solves, solution-plan, timeAt, time-at, node-below, not-below}
 use Rattle.windows.proofs.Laying.{arcs-within}

@@ -10,7 +10,7 @@ use Rattle.tables.specs.Sheets.{Sheet, refusal}
 use Rattle.tables.proofs.Laws.{accepted}
 use Rattle.windows.specs.Arcs.{nodes}
 use Rattle.windows.proofs.Limits.{nodes-few}
-use Rattle.calls.specs.Ask.{timed, roomy, askRefusal}
+use Rattle.calls.specs.Ask.{roomy, askRefusal}
 use Rattle.calls.proofs.Ask.Refusals.{refused-none}
 
 module _ (s : Sheet) (admitted : refusal s ≡ 0) (plan circuit : List ℕ) (long : length plan ≡ 192) (wide : length circuit ≡ 768) where

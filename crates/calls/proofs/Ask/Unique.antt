@@ -1,30 +1,27 @@
 -- Two outcomes of Ask are equal, but for which circuit is given.
 use mathlib.Core.Path.{_≡_, refl, sym, ap, _∙_}
 use mathlib.Core.Logic.{_≢_}
-use mathlib.Core.List.{List, [], _∷_, _++_}
-use Prim.Native.Nat.{ℕ, zero, suc, pred, _+_, _-_, _*_, _/_, _%_, _≤_, _<_}
+use mathlib.Core.List.{List}
+use Prim.Native.Nat.{ℕ, suc, _+_, _-_, _*_, _/_, _%_, _≤_, _<_}
 use native.Mathlib.Omega.{arith}
 use native.Mathlib.Nat.{mod-lt, mod-eq-of-lt, div-add-mod', div-lt-iff-lt-mul, div-eq-of-lt}
 use native.Mathlib.Decide.{decLt}
-use lib.ListN.{getD, length, drop, length-drop}
+use lib.ListN.{getD, length, drop}
 use lib.Seq.{ext-getD, getD-drop}
 use lib.IntN.{pos}
-use lib.Signed.{_≤ℤ_}
 use Rattle.theory.specs.Arcs.{Plan, table, Rounds}
 use Rattle.theory.proofs.Rounds.{table-least, still-plan}
-use Rattle.theory.proofs.Loops.{rounds-same, rounds-few}
+use Rattle.theory.proofs.Loops.{rounds-same}
 use Rattle.tables.specs.Sheets.{Sheet, refusal}
 use Rattle.tables.proofs.Refusing.{otherwise-none}
 use Rattle.tables.proofs.Laws.{Admitted, accepted}
-use Rattle.windows.specs.Windows.{Event}
-use Rattle.windows.specs.Inequalities.{Times, Solves}
 use Rattle.windows.specs.Arcs.{node, nodes, arcs}
 use Rattle.windows.proofs.Parts.{le-parts}
 use Rattle.windows.proofs.Endless.{onwards, plan-iff, plan-solves, onwards-from-zero}
 use Rattle.windows.proofs.Laying.{arcs-within}
 use Rattle.windows.proofs.Steps.{never-both}
 use Rattle.calls.specs.Ask as ask
-use Rattle.calls.specs.Ask.{Answer, number, askRefusal, Earliest, Accepts, Outcome}
+use Rattle.calls.specs.Ask.{Answer, number, askRefusal, Earliest, Outcome}
 
 -- every place below N is the node of an event at a position
 pub node-at : (s : Sheet) → 0 < s .n → (v : ℕ) → v < nodes s → (g e : ℕ) × (g < s .positions) × (e < s .n) × (node s (suc g) (suc e) ≡ v)

@@ -1,7 +1,7 @@
 -- The verdict, by what the file was read as: a refused file has its own number, and of a sheet Ask's answer counts.
 -- What Ask answers of an admitted sheet, in room for 192 nodes, is the verdict: only p and q can be refused.
 use mathlib.Core.Path.{_≡_, refl, sym, _∙_, subst}
-use mathlib.Core.Logic.{_⊎_, inl, inr}
+use mathlib.Core.Logic.{inl, inr}
 use mathlib.Core.Bool.{Bool, true, false}
 use mathlib.Core.List.{List}
 use Prim.Native.Nat.{ℕ}

@@ -4,12 +4,6 @@ use native.Mathlib.Omega.{arith}
 use borrow.Author.Needs.{needs}
 use Rattle.endings.proofs.put_ends.Statement.{statement}
 use Rattle.endings.proofs.put_ends.Tie as tie
-use Rattle.endings.proofs.put_ends.Reads as reads
-use Rattle.endings.proofs.put_ends.Lts as lts
-use Rattle.lines.proofs.put_fraction.Reads as put-fraction-reads
-use Rattle.endings.proofs.put_highest.Reads as put-highest-reads
-use Rattle.text.proofs.put_byte.Reads as put-byte-reads
-use Rattle.text.proofs.put_word.Reads as put-word-reads
 
 -- src/lib.rt:95:36
 slice-aggregate-put-word : tie.Need-slice-aggregate-put-word

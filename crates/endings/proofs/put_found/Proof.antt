@@ -4,11 +4,6 @@ use native.Mathlib.Omega.{arith}
 use borrow.Author.Needs.{needs}
 use Rattle.endings.proofs.put_found.Statement.{statement}
 use Rattle.endings.proofs.put_found.Tie as tie
-use Rattle.endings.proofs.put_found.Reads as reads
-use Rattle.endings.proofs.put_found.Lts as lts
-use Rattle.lines.proofs.put_circuit.Reads as put-circuit-reads
-use Rattle.endings.proofs.put_ends.Reads as put-ends-reads
-use Rattle.endings.proofs.put_high.Reads as put-high-reads
 
 -- src/lib.rt:176:9
 put-ends-requires : tie.Need-put-ends-requires

@@ -5,9 +5,6 @@ use native.Mathlib.Omega.{arith}
 use borrow.Author.Needs.{needs}
 use Rattle.endings.proofs.put_high.Statement.{statement}
 use Rattle.endings.proofs.put_high.Tie as tie
-use Rattle.endings.proofs.put_high.Reads as reads
-use Rattle.endings.proofs.put_high.Lts as lts
-use Rattle.lines.proofs.put_circuit.Reads as put-circuit-reads
 
 -- src/lib.rt:109:23
 enum-told : tie.Need-enum-told

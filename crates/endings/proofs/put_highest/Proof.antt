@@ -4,10 +4,6 @@ use native.Mathlib.Omega.{arith}
 use borrow.Author.Needs.{needs}
 use Rattle.endings.proofs.put_highest.Statement.{statement}
 use Rattle.endings.proofs.put_highest.Tie as tie
-use Rattle.endings.proofs.put_highest.Reads as reads
-use Rattle.endings.proofs.put_highest.Lts as lts
-use Rattle.lines.proofs.put_fraction.Reads as put-fraction-reads
-use Rattle.text.proofs.put_word.Reads as put-word-reads
 
 -- src/lib.rt:86:38
 enum-told : tie.Need-enum-told

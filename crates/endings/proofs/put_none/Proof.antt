@@ -3,11 +3,6 @@ use Rattle.text.proofs.Puts.{puts-then}
 use borrow.Author.Needs.{needs}
 use Rattle.endings.proofs.put_none.Statement.{statement}
 use Rattle.endings.proofs.put_none.Tie as tie
-use Rattle.endings.proofs.put_none.Reads as reads
-use Rattle.endings.proofs.put_none.Lts as lts
-use Rattle.lines.proofs.put_circuit.Reads as put-circuit-reads
-use Rattle.text.proofs.put_byte.Reads as put-byte-reads
-use Rattle.text.proofs.put_word.Reads as put-word-reads
 
 -- src/lib.rt:186:36
 slice-aggregate-put-word : tie.Need-slice-aggregate-put-word

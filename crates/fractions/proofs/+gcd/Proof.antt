@@ -1,8 +1,6 @@
 -- `fractions::gcd` meets its contract: where b is 0 the divisor is a; else b and the remainder have the divisors of a and b. The measure is b.
 use Rattle.theory.proofs.Fractions.{greatest-zero, greatest-step}
 use native.Mathlib.Nat.{mod-lt, pos-of-ne-zero}
-use mathlib.Core.Path.{_≡_, sym, subst}
-use native.Mathlib.Omega.{arith}
 use Prim.Native.Nat.{ℕ, _<_}
 use borrow.Fn.Kinds.{In}
 use borrow.Fn.PlainCycle.{Measures, is, falls, and}

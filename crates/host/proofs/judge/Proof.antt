@@ -2,7 +2,6 @@
 use mathlib.Core.Path.{sym}
 use native.Mathlib.Omega.{arith}
 use lib.Seq.{length-take-le}
-use Rattle.tables.specs.Sheets.{Sheet}
 use Rattle.tables.proofs.Laws.{square}
 use Rattle.reader.proofs.Leaves.{Leaves, leaves-admitted, leaves-sizes, leaves-few, read-leaves, read-refused}
 use Rattle.calls.proofs.Host.Asking.{refused-first, read-answered}

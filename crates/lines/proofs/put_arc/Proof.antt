@@ -4,11 +4,6 @@ use Rattle.text.proofs.Puts.{puts-then}
 use borrow.Author.Needs.{needs}
 use Rattle.lines.proofs.put_arc.Statement.{statement}
 use Rattle.lines.proofs.put_arc.Tie as tie
-use Rattle.lines.proofs.put_arc.Reads as reads
-use Rattle.lines.proofs.put_arc.Lts as lts
-use Rattle.lines.proofs.put_spaced.Reads as put-spaced-reads
-use Rattle.text.proofs.put_byte.Reads as put-byte-reads
-use Rattle.text.proofs.put_number.Reads as put-number-reads
 
 -- src/lib.rt:33:9
 put-number-requires : tie.Need-put-number-requires

@@ -1,14 +1,10 @@
 -- `lines::put_arcs` meets its contract. The invariant: all arcs but the first k are left; the measure is how many that is.
 use Prim.Native.Nat.{_+_, _-_, _*_, _≤_}
 use native.Mathlib.Omega.{arith}
-use lib.ListN.{getD}
 use Rattle.text.proofs.Puts.{part-length}
 use Rattle.lines.proofs.Turns.{ArcsLeft, arcs-none, arcs-turn, arcs-all}
 use Rattle.lines.proofs.put_arcs.Statement.{statement}
 use Rattle.lines.proofs.put_arcs.Tie as tie
-use Rattle.lines.proofs.put_arcs.Reads as reads
-use Rattle.lines.proofs.put_arcs.Lts as lts
-use Rattle.lines.proofs.put_arc.Reads as put-arc-reads
 
 abbrev Inv-loop : tie.InvT-loop
 Inv-loop out₀ at circuit count next₀ k₀ out next k = (k ≤ count) × (next ≤ at + k * 84) × ArcsLeft out₀ at circuit count k next out

@@ -4,12 +4,6 @@ use native.Mathlib.Omega.{arith}
 use borrow.Author.Needs.{needs}
 use Rattle.lines.proofs.put_circuit.Statement.{statement}
 use Rattle.lines.proofs.put_circuit.Tie as tie
-use Rattle.lines.proofs.put_circuit.Reads as reads
-use Rattle.lines.proofs.put_circuit.Lts as lts
-use Rattle.lines.proofs.put_arcs.Reads as put-arcs-reads
-use Rattle.lines.proofs.put_spaced.Reads as put-spaced-reads
-use Rattle.text.proofs.put_byte.Reads as put-byte-reads
-use Rattle.text.proofs.put_word.Reads as put-word-reads
 
 -- src/lib.rt:64:9
 put-word-requires : tie.Need-put-word-requires

@@ -6,10 +6,6 @@ use Rattle.text.proofs.Puts.{part-length}
 use Rattle.lines.proofs.Turns.{TimesLeft, times-none, times-turn, times-end}
 use Rattle.lines.proofs.put_following.Statement.{statement}
 use Rattle.lines.proofs.put_following.Tie as tie
-use Rattle.lines.proofs.put_following.Reads as reads
-use Rattle.lines.proofs.put_following.Lts as lts
-use Rattle.lines.proofs.put_spaced.Reads as put-spaced-reads
-use Rattle.text.proofs.put_byte.Reads as put-byte-reads
 
 abbrev Inv-loop : tie.InvT-loop
 Inv-loop out₀ at plan a n next₀ k₀ out next k = (k ≤ n) × (next ≤ at + k * 21) × TimesLeft out₀ at plan a n k next out

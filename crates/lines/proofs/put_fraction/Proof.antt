@@ -4,10 +4,6 @@ use Rattle.text.proofs.Puts.{puts-then}
 use borrow.Author.Needs.{needs}
 use Rattle.lines.proofs.put_fraction.Statement.{statement}
 use Rattle.lines.proofs.put_fraction.Tie as tie
-use Rattle.lines.proofs.put_fraction.Reads as reads
-use Rattle.lines.proofs.put_fraction.Lts as lts
-use Rattle.text.proofs.put_byte.Reads as put-byte-reads
-use Rattle.text.proofs.put_number.Reads as put-number-reads
 
 -- src/lib.rt:75:9
 put-number-requires : tie.Need-put-number-requires

@@ -3,12 +3,6 @@ use Rattle.text.proofs.Puts.{puts-then}
 use borrow.Author.Needs.{needs}
 use Rattle.lines.proofs.put_plan.Statement.{statement}
 use Rattle.lines.proofs.put_plan.Tie as tie
-use Rattle.lines.proofs.put_plan.Reads as reads
-use Rattle.lines.proofs.put_plan.Lts as lts
-use Rattle.lines.proofs.put_positions.Reads as put-positions-reads
-use Rattle.lines.proofs.put_spaced.Reads as put-spaced-reads
-use Rattle.text.proofs.put_byte.Reads as put-byte-reads
-use Rattle.text.proofs.put_word.Reads as put-word-reads
 
 -- src/lib.rt:164:37
 slice-aggregate-put-word : tie.Need-slice-aggregate-put-word

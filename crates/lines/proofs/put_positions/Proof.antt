@@ -6,9 +6,6 @@ use Rattle.text.proofs.Puts.{part-length}
 use Rattle.lines.proofs.Turns.{PositionsLeft, positions-none, positions-turn, positions-all}
 use Rattle.lines.proofs.put_positions.Statement.{statement}
 use Rattle.lines.proofs.put_positions.Tie as tie
-use Rattle.lines.proofs.put_positions.Reads as reads
-use Rattle.lines.proofs.put_positions.Lts as lts
-use Rattle.lines.proofs.put_times.Reads as put-times-reads
 
 abbrev Inv-loop : tie.InvT-loop
 Inv-loop out₀ at plan n positions next₀ g₀ out next g = (g ≤ positions) × (next ≤ at + g * 252) × PositionsLeft out₀ at plan n positions g next out

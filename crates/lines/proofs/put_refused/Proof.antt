@@ -3,11 +3,6 @@ use Rattle.text.proofs.Puts.{puts-then}
 use borrow.Author.Needs.{needs}
 use Rattle.lines.proofs.put_refused.Statement.{statement}
 use Rattle.lines.proofs.put_refused.Tie as tie
-use Rattle.lines.proofs.put_refused.Reads as reads
-use Rattle.lines.proofs.put_refused.Lts as lts
-use Rattle.lines.proofs.put_spaced.Reads as put-spaced-reads
-use Rattle.text.proofs.put_byte.Reads as put-byte-reads
-use Rattle.text.proofs.put_word.Reads as put-word-reads
 
 -- src/lib.rt:196:36
 slice-aggregate-put-word : tie.Need-slice-aggregate-put-word

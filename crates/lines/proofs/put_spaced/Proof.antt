@@ -4,10 +4,6 @@ use Rattle.text.proofs.Puts.{puts-then}
 use borrow.Author.Needs.{needs}
 use Rattle.lines.proofs.put_spaced.Statement.{statement}
 use Rattle.lines.proofs.put_spaced.Tie as tie
-use Rattle.lines.proofs.put_spaced.Reads as reads
-use Rattle.lines.proofs.put_spaced.Lts as lts
-use Rattle.text.proofs.put_byte.Reads as put-byte-reads
-use Rattle.text.proofs.put_number.Reads as put-number-reads
 
 -- src/lib.rt:24:9
 put-byte-requires : tie.Need-put-byte-requires

@@ -4,10 +4,6 @@ use Rattle.lines.proofs.Turns.{times-puts}
 use borrow.Author.Needs.{needs}
 use Rattle.lines.proofs.put_times.Statement.{statement}
 use Rattle.lines.proofs.put_times.Tie as tie
-use Rattle.lines.proofs.put_times.Reads as reads
-use Rattle.lines.proofs.put_times.Lts as lts
-use Rattle.lines.proofs.put_following.Reads as put-following-reads
-use Rattle.text.proofs.put_number.Reads as put-number-reads
 
 -- src/lib.rt:133:42
 mul-put-number : tie.Need-mul-put-number

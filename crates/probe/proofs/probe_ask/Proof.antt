@@ -1,14 +1,9 @@
 -- `probe::probe_ask` meets its contract: the answer, handed over.
-use mathlib.Core.Path.{_≡_, ap, _∙_}
+use mathlib.Core.Path.{ap, _∙_}
 use lib.Seq.{sets}
 use borrow.Author.Needs.{needs}
 use Rattle.probe.proofs.probe_ask.Statement.{statement}
 use Rattle.probe.proofs.probe_ask.Tie as tie
-use Rattle.probe.proofs.probe_ask.Reads as reads
-use Rattle.probe.proofs.probe_ask.Lts as lts
-use Rattle.ask.proofs.ask.Reads as ask-reads
-use Rattle.answers.proofs.give.Reads as give-reads
-use Rattle.answers.proofs.of_asked.Reads as of-asked-reads
 
 -- src/lib.rt:197:22
 ask-requires : tie.Need-ask-requires

@@ -1,14 +1,9 @@
 -- `probe::probe_ends` meets its contract: the answer, handed over.
-use mathlib.Core.Path.{_≡_, ap, _∙_}
+use mathlib.Core.Path.{ap, _∙_}
 use lib.Seq.{sets}
 use borrow.Author.Needs.{needs}
 use Rattle.probe.proofs.probe_ends.Statement.{statement}
 use Rattle.probe.proofs.probe_ends.Tie as tie
-use Rattle.probe.proofs.probe_ends.Reads as reads
-use Rattle.probe.proofs.probe_ends.Lts as lts
-use Rattle.ends.proofs.ends.Reads as ends-reads
-use Rattle.answers.proofs.give.Reads as give-reads
-use Rattle.answers.proofs.of_ended.Reads as of-ended-reads
 
 -- src/lib.rt:216:22
 ends-requires : tie.Need-ends-requires

@@ -1,15 +1,10 @@
 -- `probe::probe_read` meets its contract: the reader's answer, handed over.
-use mathlib.Core.Path.{_≡_, ap, _∙_}
+use mathlib.Core.Path.{ap, _∙_}
 use lib.Seq.{sets}
 use Rattle.reader.specs.Answers.{answerRead}
 use borrow.Author.Needs.{needs}
 use Rattle.probe.proofs.probe_read.Statement.{statement}
 use Rattle.probe.proofs.probe_read.Tie as tie
-use Rattle.probe.proofs.probe_read.Reads as reads
-use Rattle.probe.proofs.probe_read.Lts as lts
-use Rattle.answers.proofs.give.Reads as give-reads
-use Rattle.answers.proofs.of_read.Reads as of-read-reads
-use Rattle.reader.proofs.read_sheet.Reads as read-sheet-reads
 
 -- src/lib.rt:95:21
 read-sheet-requires : tie.Need-read-sheet-requires

@@ -1,15 +1,10 @@
 -- `probe::probe_write` meets its contract: the writer's answer, handed over.
-use mathlib.Core.Path.{_≡_, ap, _∙_}
+use mathlib.Core.Path.{ap, _∙_}
 use lib.Seq.{sets}
 use Rattle.writer.specs.Answers.{answerWritten}
 use borrow.Author.Needs.{needs}
 use Rattle.probe.proofs.probe_write.Statement.{statement}
 use Rattle.probe.proofs.probe_write.Tie as tie
-use Rattle.probe.proofs.probe_write.Reads as reads
-use Rattle.probe.proofs.probe_write.Lts as lts
-use Rattle.answers.proofs.give.Reads as give-reads
-use Rattle.answers.proofs.of_written.Reads as of-written-reads
-use Rattle.writer.proofs.write_sheet.Reads as write-sheet-reads
 
 -- src/lib.rt:112:24
 write-sheet-requires : tie.Need-write-sheet-requires

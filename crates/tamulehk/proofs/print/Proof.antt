@@ -5,10 +5,6 @@ use mathlib.Core.Path.{sym}
 use borrow.Author.Needs.{needs}
 use Rattle.tamulehk.proofs.print.Statement.{statement}
 use Rattle.tamulehk.proofs.print.Tie as tie
-use Rattle.tamulehk.proofs.print.Reads as reads
-use Rattle.tamulehk.proofs.print.Lts as lts
-use Rattle.io.proofs.write_all.Reads as write-all-reads
-use Rattle.report.proofs.report.Reads as report-reads
 
 -- src/main.rt:9:11
 report-requires : tie.Need-report-requires

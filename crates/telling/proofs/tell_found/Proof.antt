@@ -5,10 +5,6 @@ use mathlib.Core.Path.{refl}
 use borrow.Author.Needs.{needs}
 use Rattle.telling.proofs.tell_found.Statement.{statement}
 use Rattle.telling.proofs.tell_found.Tie as tie
-use Rattle.telling.proofs.tell_found.Reads as reads
-use Rattle.telling.proofs.tell_found.Lts as lts
-use Rattle.endings.proofs.put_found.Reads as put-found-reads
-use Rattle.telling.proofs.tell_plan.Reads as tell-plan-reads
 
 -- src/lib.rt:61:9
 put-found-requires : tie.Need-put-found-requires

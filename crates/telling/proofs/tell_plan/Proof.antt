@@ -7,10 +7,6 @@ use mathlib.Core.Path.{_∙_}
 use borrow.Author.Needs.{needs}
 use Rattle.telling.proofs.tell_plan.Statement.{statement}
 use Rattle.telling.proofs.tell_plan.Tie as tie
-use Rattle.telling.proofs.tell_plan.Reads as reads
-use Rattle.telling.proofs.tell_plan.Lts as lts
-use Rattle.ask.proofs.ask.Reads as ask-reads
-use Rattle.lines.proofs.put_plan.Reads as put-plan-reads
 
 -- src/lib.rt:35:11
 ask-requires : tie.Need-ask-requires

@@ -2,18 +2,12 @@
 use Rattle.telling.proofs.Telling.{tells-refused, tells-got}
 use Rattle.reader.proofs.Leaves.{Leaves, leaves-admitted, leaves-sizes, leaves-few, read-leaves, read-refused}
 use Rattle.tables.proofs.Laws.{square}
-use Rattle.tables.specs.Sheets.{Sheet}
 use lib.Seq.{length-take-le}
 use native.Mathlib.Omega.{arith}
-use mathlib.Core.Path.{refl, sym, subst}
+use mathlib.Core.Path.{sym}
 use borrow.Author.Needs.{needs}
 use Rattle.telling.proofs.tell_read.Statement.{statement}
 use Rattle.telling.proofs.tell_read.Tie as tie
-use Rattle.telling.proofs.tell_read.Reads as reads
-use Rattle.telling.proofs.tell_read.Lts as lts
-use Rattle.lines.proofs.put_refused.Reads as put-refused-reads
-use Rattle.telling.proofs.tell_admitted.Reads as tell-admitted-reads
-use Rattle.reader.proofs.read_sheet.Reads as read-sheet-reads
 
 -- src/lib.rt:142:9
 read-sheet-requires : tie.Need-read-sheet-requires

@@ -5,11 +5,6 @@ use mathlib.Core.Path.{_∙_}
 use borrow.Author.Needs.{needs}
 use Rattle.telling.proofs.tell_sheet.Statement.{statement}
 use Rattle.telling.proofs.tell_sheet.Tie as tie
-use Rattle.telling.proofs.tell_sheet.Reads as reads
-use Rattle.telling.proofs.tell_sheet.Lts as lts
-use Rattle.ends.proofs.ends.Reads as ends-reads
-use Rattle.endings.proofs.put_none.Reads as put-none-reads
-use Rattle.telling.proofs.tell_found.Reads as tell-found-reads
 
 -- src/lib.rt:93:11
 ends-requires : tie.Need-ends-requires

@@ -4,8 +4,6 @@ use lib.Seq.{set-out}
 use borrow.Author.Needs.{needs}
 use Rattle.text.proofs.put_byte.Statement.{statement}
 use Rattle.text.proofs.put_byte.Tie as tie
-use Rattle.text.proofs.put_byte.Reads as reads
-use Rattle.text.proofs.put_byte.Lts as lts
 
 -- src/lib.rt:19:9
 slice-write-out : tie.Need-slice-write-out

@@ -1,5 +1,4 @@
 -- `writer::write_sheet` meets its contract. The first walk gives the length; the second, over the same sheet, writes it.
-use Rattle.sheet.specs.Written.{written}
 use Rattle.writer.proofs.Outcomes.{writes-refused, walked-length, writes-short, writes-done}
 use mathlib.Core.Path.{_≡_, sym, _∙_}
 use native.Mathlib.Omega.{arith}

@@ -1,4 +1,4 @@
--- `copies::copy` meets its contract. The invariant: the first k numbers are copied; the measure is what is left.
+-- `buffers::copy` meets its contract. The invariant: the first k numbers are copied; the measure is what is left.
 use mathlib.Core.Path.{_≡_, refl, ap, _∙_}
 use Prim.Native.Nat.{ℕ, _-_, _≤_}
 use native.Mathlib.Omega.{arith}
@@ -6,8 +6,8 @@ use native.Mathlib.Nat.{le-antisymm}
 use lib.ListN.{length}
 use Rattle.search.specs.Copies.{copied}
 use Rattle.search.proofs.Copies.{copied-length, copied-more}
-use Rattle.search.proofs.copies.copy.Statement.{statement}
-use Rattle.search.proofs.copies.copy.Tie as tie
+use Rattle.search.proofs.buffers.copy.Statement.{statement}
+use Rattle.search.proofs.buffers.copy.Tie as tie
 
 abbrev Inv-loop : tie.InvT-loop
 Inv-loop from arcs to₀ count k₀ to k = (k ≤ count) × (to ≡ copied from k to₀)
