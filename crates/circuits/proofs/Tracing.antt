@@ -16,7 +16,8 @@ use Rattle.tables.specs.Sheets.{Sheet}
 use Rattle.tables.proofs.Laws.{Admitted}
 use Rattle.windows.specs.Windows.{number, Has, mode}
 use Rattle.windows.specs.Arcs.{arc, arcOf, arcs, nodes}
-use Rattle.windows.specs.Circuits.{Step, kindOf, stepArc, Valid}
+use Rattle.windows.specs.Circuits.{Step, stepArc, Valid}
+use Rattle.windows.specs.Buffers.{kindOf}
 use Rattle.windows.proofs.Laying.{arcs-within}
 use Rattle.windows.proofs.Limits.{nodes-few}
 use Rattle.windows.proofs.Steps.{valid-in}

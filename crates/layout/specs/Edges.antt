@@ -1,4 +1,5 @@
--- The arc of a record at a position, in the numbers that a round reads (document 01, "Arcs").
+-- The arc of a record at a position, in the numbers that a round reads (document 01, "Arcs"). These definitions face the code;
+-- turns/proofs/Sheets ties them to the arcs of a sheet.
 use Prim.Native.Nat.{ℕ, zero, suc, _+_, _-_, _*_}
 use Rattle.windows.specs.Arcs.{up, down}
 use Rattle.layout.specs.declared.Edge.{Edge}

@@ -8,7 +8,7 @@ use lib.ListN.{length, getD, drop}
 use Rattle.tables.specs.Sheets.{absent}
 use Rattle.windows.specs.Windows.{A0, number, Window}
 use Rattle.windows.specs.Arcs.{unless}
-use Rattle.windows.specs.Circuits.{kindOf}
+use Rattle.windows.specs.Buffers.{kindOf}
 use Rattle.layout.specs.declared.Window.{Window as Item}
 
 -- the record of a window

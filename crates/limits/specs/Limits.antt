@@ -1,4 +1,4 @@
--- What a circuit's sums say of the climb, as the code decides it.
+-- What a circuit's sums say of the climb. This definition faces the code; document 01 has only what the climb finds (theory/specs/Ends).
 use Prim.Native.Nat.{_-_, _≤_, _<_}
 use Rattle.theory.specs.Ends.{Reduces}
 use Rattle.limits.specs.declared.Weight.{Weight}

@@ -7,7 +7,8 @@ use native.Mathlib.Nat.{mul-le-mul-right}
 use lib.ListN.{length, drop, length-append, length-drop}
 use Rattle.tables.specs.Sheets.{Sheet}
 use Rattle.tables.proofs.Laws.{Admitted, accepted}
-use Rattle.windows.specs.Circuits.{numbers, stepsIn}
+use Rattle.windows.specs.Circuits.{numbers}
+use Rattle.windows.specs.Buffers.{stepsIn}
 use Rattle.windows.proofs.Endless.{meaning}
 use Rattle.windows.proofs.Limits.{nodes-few}
 use Rattle.windows.proofs.Numbers.{numbers-length}

@@ -13,7 +13,8 @@ use Rattle.theory.proofs.Found.{climb-on, climb-both, descend-climbs, descend-o
 use Rattle.tables.specs.Sheets.{Sheet, refusal}
 use Rattle.tables.proofs.Laws.{accepted}
 use Rattle.windows.specs.Arcs.{nodes, arcs}
-use Rattle.windows.specs.Circuits.{Step, numbers, stepArc, stepsIn}
+use Rattle.windows.specs.Circuits.{Step, numbers, stepArc}
+use Rattle.windows.specs.Buffers.{stepsIn}
 use Rattle.windows.proofs.Limits.{sheet-laid}
 use Rattle.windows.proofs.Numbers.{numbers-length}
 use Rattle.weights.specs.Weights.{weightsOf, Lists}

@@ -1,4 +1,4 @@
--- Circuits from buffer to buffer.
+-- Circuits from buffer to buffer. These definitions face the code.
 use mathlib.Core.List.{List, _++_}
 use Prim.Native.Nat.{ℕ, _*_, _≤_}
 use lib.ListN.{length, take, drop}

@@ -8,7 +8,7 @@ use Rattle.theory.specs.Arcs.{Works}
 use Rattle.theory.specs.Ends.{Reduces}
 use Rattle.tables.specs.Sheets.{Sheet, refusal}
 use Rattle.windows.specs.Arcs.{arcs}
-use Rattle.windows.specs.Circuits.{stepsIn}
+use Rattle.windows.specs.Buffers.{stepsIn}
 use Rattle.ask.specs.declared.Asked.{Asked}
 use Rattle.ask.specs.declared.Asked.the-variants as asked
 use Rattle.limits.specs.declared.Weight.{Weight}

@@ -9,7 +9,8 @@ use Rattle.tables.specs.Sheets.{Sheet, refusal}
 use Rattle.tables.proofs.Laws.{accepted}
 use Rattle.windows.specs.Windows.{number}
 use Rattle.windows.specs.Arcs.{nodes, arcs}
-use Rattle.windows.specs.Circuits.{Step, numbers, stepAt, stepsIn, stepArc, Valid, AllValid, CircuitOf}
+use Rattle.windows.specs.Circuits.{Step, numbers, stepArc, Valid, AllValid, CircuitOf}
+use Rattle.windows.specs.Buffers.{stepAt, stepsIn}
 use Rattle.windows.proofs.Laying.{arcs-within}
 use Rattle.windows.proofs.Limits.{number-small, nodes-few}
 use Rattle.windows.proofs.Numbers.{numbers-length, getD-four, step-at, steps-in}

@@ -12,7 +12,8 @@ use Rattle.theory.proofs.Turning.{map-append}
 use Rattle.tables.specs.Sheets.{Sheet}
 use Rattle.windows.specs.Windows.{Kind, A0, B0, A1, B1}
 use Rattle.windows.specs.Arcs.{up, down, period, arc}
-use Rattle.windows.specs.Circuits.{Step, kindOf, stepAt, stepsIn, limit, stepArc}
+use Rattle.windows.specs.Circuits.{Step, limit, stepArc}
+use Rattle.windows.specs.Buffers.{kindOf, stepAt, stepsIn}
 use Rattle.weights.specs.Weights.{stepOf, kindWeight, weightOf, weightsOf, Light, plus, Names}
 use Rattle.limits.specs.declared.Weight.{Weight}
 

@@ -7,7 +7,8 @@ use lib.IntN.{ℤ}
 use Rattle.theory.specs.Circuits.{ups, downs, forths, backs}
 use Rattle.tables.specs.Sheets.{Sheet, refusal}
 use Rattle.windows.specs.Windows.{Kind, A0, B0, A1, B1}
-use Rattle.windows.specs.Circuits.{Step, kindOf, limit, stepArc, Valid}
+use Rattle.windows.specs.Circuits.{Step, limit, stepArc, Valid}
+use Rattle.windows.specs.Buffers.{kindOf}
 use Rattle.limits.specs.declared.Weight.{Weight}
 
 -- the step of four numbers

@@ -6,7 +6,7 @@ ghost use mathlib.Core.Path.{_≡_};
 ghost use Prim.Native.Nat.{_/_, _+_, _*_, _-_, _≤_, _<_};
 ghost use lib.ListN.{length, getD};
 ghost use Rattle.tables.specs.Sheets.{sheet, place};
-ghost use Rattle.windows.specs.Circuits.{kindOf, stepAt, stepsIn};
+ghost use Rattle.windows.specs.Buffers.{kindOf, stepAt, stepsIn};
 ghost use Rattle.weights.specs.Weights.{stepOf, limitOf, kindWeight, weightOf, weightsOf, Light, plus, Names, NamesAt, Lists};
 
 // The mode at a position of the schedule.

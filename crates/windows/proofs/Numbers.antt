@@ -6,7 +6,8 @@ use native.Mathlib.Omega.{arith}
 use lib.ListN.{getD, length, take}
 use lib.Seq.{take-suc}
 use Rattle.windows.specs.Windows.{Kind, A0, B0, A1, B1, number}
-use Rattle.windows.specs.Circuits.{Step, numbers, kindOf, stepAt, stepsIn}
+use Rattle.windows.specs.Circuits.{Step, numbers}
+use Rattle.windows.specs.Buffers.{kindOf, stepAt, stepsIn}
 
 pub kind-number : (k : Kind) → kindOf (number k) ≡ k
 kind-number A0 = refl

@@ -1,13 +1,12 @@
 -- Circuits as a call hands them out (document 01, "Circuits"): "An arc is four numbers: kind, position, to, from."
 use mathlib.Core.Logic.{_≢_}
-use mathlib.Core.List.{List, [], _∷_, _++_, map}
-use Prim.Native.Nat.{ℕ, zero, suc, _+_, _*_, _≤_}
-use lib.ListN.{getD}
+use mathlib.Core.List.{List, [], _∷_, map}
+use Prim.Native.Nat.{ℕ, _≤_}
 use lib.IntN.{ℤ}
 use Rattle.theory.specs.Arcs.{Arc}
 use Rattle.theory.specs.Circuits.{Circuit, departures, FirstSmallest, Above}
 use Rattle.tables.specs.Sheets.{Sheet, noWindow}
-use Rattle.windows.specs.Windows.{Kind, A0, B0, A1, B1, number, Event, entry, mode}
+use Rattle.windows.specs.Windows.{Kind, number, Event, entry, mode}
 use Rattle.windows.specs.Arcs.{arc, arcs}
 
 -- An arc of a circuit, as it is named: by its window and its position.
@@ -21,23 +20,6 @@ pub record Step : Type 0 where
 abbrev pub numbers : List Step → List ℕ
 numbers [] = []
 numbers (c ∷ rest) = number (c .kind) ∷ c .position ∷ c .to ∷ c .from ∷ numbers rest
-
--- the kind of a number below 4
-abbrev pub kindOf : ℕ → Kind
-kindOf zero = A0
-kindOf (suc zero) = B0
-kindOf (suc (suc zero)) = A1
-kindOf (suc (suc (suc k))) = B1
-
--- the arc, from 0, that a buffer holds
-abbrev pub stepAt : List ℕ → ℕ → Step
-stepAt circuit k =
-    record { kind = kindOf (getD circuit (4 * k) 0); position = getD circuit (4 * k + 1) 0; to = getD circuit (4 * k + 2) 0; from = getD circuit (4 * k + 3) 0 }
-
--- its first arcs
-unfoldable pub stepsIn : List ℕ → ℕ → List Step
-stepsIn circuit zero = []
-stepsIn circuit (suc k) = stepsIn circuit k ++ stepAt circuit k ∷ []
 
 module _ (s : Sheet) where
   -- the limit of the step's window, and its arc

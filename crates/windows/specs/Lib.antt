@@ -2,3 +2,4 @@ pub mod Windows
 pub mod Inequalities
 pub mod Arcs
 pub mod Circuits
+pub mod Buffers

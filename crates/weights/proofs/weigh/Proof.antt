@@ -4,7 +4,7 @@ use Prim.Native.Nat.{_-_, _≤_}
 use native.Mathlib.Omega.{arith}
 use native.Mathlib.Nat.{le-antisymm}
 use Rattle.tables.specs.Sheets.{sheet}
-use Rattle.windows.specs.Circuits.{stepsIn}
+use Rattle.windows.specs.Buffers.{stepsIn}
 use Rattle.weights.specs.Weights.{weightsOf, Light}
 use Rattle.weights.proofs.Weighing.{weights-none, weights-step, weights-all, light-more}
 use Rattle.weights.proofs.weigh.Statement.{statement}

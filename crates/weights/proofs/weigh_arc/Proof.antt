@@ -3,7 +3,7 @@ use mathlib.Core.Path.{ap, _∙_}
 use native.Mathlib.Omega.{arith}
 use borrow.Author.Needs.{needs}
 use Rattle.windows.specs.Arcs.{up, down}
-use Rattle.windows.specs.Circuits.{kindOf}
+use Rattle.windows.specs.Buffers.{kindOf}
 use Rattle.numbers.proofs.Signs.{passed}
 use Rattle.weights.proofs.Weighing.{weigh-arc, light-kind}
 use Rattle.weights.proofs.weigh_arc.Statement.{statement}
