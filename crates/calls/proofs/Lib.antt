@@ -1,3 +1,5 @@
 pub mod Ask
 pub mod Ends
 pub mod Host
+pub mod Alike
+pub mod Surplus

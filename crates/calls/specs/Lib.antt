@@ -1,3 +1,4 @@
 pub mod Ask
 pub mod Ends
 pub mod Host
+pub mod Surplus

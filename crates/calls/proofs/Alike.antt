@@ -1,0 +1,200 @@
+-- Of a sheet's tables and schedule the outcomes of Ask and of Ends read nothing but limits: of the windows of the mode at a position, between events.
+-- Where two sheets have there the same limits, an outcome for the one is an outcome for the other.
+use mathlib.Core.Path.{_≡_, refl, sym, ap, ap₂, _∙_, subst}
+use mathlib.Core.Logic.{_⊎_, inl, inr}
+use mathlib.Core.List.{List, [], _∷_, _++_, map, List·Memᴰ, List·Memᴰ·head, List·Memᴰ·tail}
+use Prim.Native.Nat.{ℕ}
+use lib.IntN.{ℤ}
+use Rattle.theory.specs.Arcs.{Arc, Rounds}
+use Rattle.theory.specs.Circuits.{Circuit, departures, FirstSmallest, Above}
+use Rattle.theory.specs.Ends.{High, Range, LowShown, HighShown, NoneShown}
+use Rattle.tables.specs.Sheets.{Sheet, sheet, absent, unless, refusal, otherwise}
+use Rattle.tables.proofs.Refusing.{otherwise-none}
+use Rattle.windows.specs.Windows.{Kind, Window, Event, entry, Has, mode}
+use Rattle.windows.specs.Inequalities.{Times, Solves, Runs}
+use Rattle.windows.specs.Arcs as laid
+use Rattle.windows.specs.Arcs.{oneTo, each, kinds, windowAt, windowsTo, windowsOf, windows, arcOf, arcsAt, arcs, nodes}
+use Rattle.windows.specs.Circuits.{Step, stepArc, Valid, AllValid, CircuitOf}
+use Rattle.windows.proofs.Listed.{one-to-of}
+use Rattle.calls.specs.Ask as ask
+use Rattle.calls.specs.Ends as ends
+
+-- the other: the same n, m and V over other lists
+abbrev pub lent : Sheet → List ℤ → List ℕ → Sheet
+lent s tables schedule = sheet (s .n) (s .m) (s .positions) tables schedule
+
+-- at every position the same limits
+abbrev pub Alike : Sheet → List ℤ → List ℕ → Type 0
+Alike s tables schedule =
+    (h : ℕ) (k : Kind) (i j : ℕ) → Event s i → Event s j → entry s (mode s h) k i j ≡ entry (lent s tables schedule) (mode (lent s tables schedule) h) k i j
+
+-- lists joined of equal parts
+each-same : {A B : Type 0} (l : List A) (f g : A → List B) → ((a : A) → List·Memᴰ a l → f a ≡ g a) → each l f ≡ each l g
+each-same [] f g e = refl
+each-same (a ∷ l) f g e = ap₂ (λ x y. x ++ y) (e a (List·Memᴰ·head refl)) (each-same l f g (λ b m. e b (List·Memᴰ·tail m)))
+
+module _ (s : Sheet) (tables : List ℤ) (schedule : List ℕ) (alike : Alike s tables schedule) where
+  has-same : (h : ℕ) (a : Window) → Has s (mode s h) a → Has (lent s tables schedule) (mode (lent s tables schedule) h) a
+  has-same h a is =
+      record {
+        to-event = is .to-event;
+        from-event = is .from-event;
+        stands = sym (alike h (a .kind) (a .to) (a .from) (is .to-event) (is .from-event)) ∙ is .stands;
+        present = is .present;
+      }
+
+  -- a solution for the other is one for the sheet, whose windows are all windows of the other
+  solves-from : (p q : ℕ) (x : Times) → Solves (lent s tables schedule) p q x → Solves s p q x
+  solves-from p q x is = record { keeps = λ h first a has. is .keeps h first a (has-same h a has); periodic = is .periodic }
+
+module _ (s : Sheet) (tables : List ℤ) (schedule : List ℕ) (alike : Alike s tables schedule) where
+  abbrev there : Sheet
+  there = lent s tables schedule
+
+  solves-there : (p q : ℕ) (x : Times) → Solves s p q x → Solves there p q x
+  solves-there = solves-from there (s .tables) (s .schedule) (λ h k i j to from. sym (alike h k i j to from))
+
+  -- ---- arcs and circuits
+
+  windows-same : (h : ℕ) → windows s (mode s h) ≡ windows there (mode there h)
+  unfolding windows
+  windows-same h =
+      each-same kinds (windowsOf s (mode s h)) (windowsOf there (mode there h)) (λ k _.
+      each-same (oneTo (s .n)) (windowsTo s (mode s h) k) (windowsTo there (mode there h) k) (λ i to.
+      each-same (oneTo (s .n)) (windowAt s (mode s h) k i) (windowAt there (mode there h) k i) (λ j from.
+      ap (λ (w : ℤ). laid.unless (absent w) (record { kind = k; to = i; from = j; w = w })) (alike h k i j (one-to-of (s .n) to) (one-to-of (s .n) from)))))
+
+  arcs-same : arcs s ≡ arcs there
+  unfolding arcs
+  arcs-same = each-same (oneTo (s .positions)) (arcsAt s) (arcsAt there) (λ h _. ap (λ (l : List Window). map (arcOf s h) l) (windows-same h))
+
+  valid-same : (c : Step) → Valid s c → Valid there c × (stepArc s c ≡ stepArc there c)
+  valid-same c v =
+      let e = alike (c .position) (c .kind) (c .to) (c .from) (v .to-event) (v .from-event) in (
+        record { from-first = v .from-first; to-last = v .to-last; to-event = v .to-event; from-event = v .from-event; present = λ none. v .present (e ∙ none) },
+        ap (λ (w : ℤ). laid.arc s (c .position) (c .kind) (c .to) (c .from) w) e,
+      )
+
+  all-valid-same : (cs : List Step) → AllValid s cs → AllValid there cs × (map (stepArc s) cs ≡ map (stepArc there) cs)
+  all-valid-same [] v = (tt, refl)
+  all-valid-same (c ∷ cs) v =
+      let a = valid-same c (v .0) in
+      let b = all-valid-same cs (v .1) in
+      ((a .0, b .0), ap₂ (λ (x : Arc) (l : List Arc). x ∷ l) (a .1) (b .1))
+
+  -- a circuit of the sheet is one of the other, and has the same arcs there
+  circuit-same : (cs : List Step) → CircuitOf s cs → CircuitOf there cs × (map (stepArc s) cs ≡ map (stepArc there) cs)
+  circuit-same cs c =
+      let v = all-valid-same cs (c .valid) in (
+        record {
+          valid = v .0;
+          circuit = subst (λ (l : List Arc). Circuit l (map (stepArc there) cs)) arcs-same (subst (λ (l : List Arc). Circuit (arcs s) l) (v .1) (c .circuit));
+          first = subst (λ (l : List Arc). FirstSmallest (departures l)) (v .1) (c .first);
+        },
+        v .1,
+      )
+
+  -- ---- outcomes of Ask and of Ends
+
+  accepts-same : (p q : ℕ) (plan₀ circuit₀ : List ℕ) (rounds : ℕ) (plan circuit : List ℕ) → ask.Accepts s p q plan₀ circuit₀ rounds plan circuit → ask.Accepts there p q plan₀ circuit₀ rounds plan circuit
+  accepts-same p q plan₀ circuit₀ rounds plan circuit is =
+      record {
+        plan-is = record {
+          solves = solves-there p q (ask.planned s p q plan) (is .plan-is .solves);
+          earliest = λ x solves low. is .plan-is .earliest x (solves-from s tables schedule alike p q x solves) low;
+        };
+        rounds-are = subst (λ (l : List Arc). Rounds l p q (nodes s) rounds) arcs-same (is .rounds-are);
+        plan-length = is .plan-length;
+        plan-rest = is .plan-rest;
+        circuit-same = is .circuit-same;
+      }
+
+  shows-same : (p q : ℕ) (plan₀ circuit₀ : List ℕ) (count : ℕ) (plan circuit : List ℕ) → ask.Shows s p q plan₀ circuit₀ count plan circuit → ask.Shows there p q plan₀ circuit₀ count plan circuit
+  shows-same p q plan₀ circuit₀ count plan circuit is =
+      let c = circuit-same (is .steps) (is .refutes .circuit) in
+      record {
+        steps = is .steps;
+        refutes = record { circuit = c .0; above = subst (λ (l : List Arc). Above p q l) (c .1) (is .refutes .above) };
+        counted = is .counted;
+        circuit-is = is .circuit-is;
+        plan-same = is .plan-same;
+      }
+
+  runs-there : (p q : ℕ) → Runs s p q → Runs there p q
+  runs-there p q is = (is .0, solves-there p q (is .0) (is .1))
+
+  runs-from : (p q : ℕ) → Runs there p q → Runs s p q
+  runs-from p q is = (is .0, solves-from s tables schedule alike p q (is .0) (is .1))
+
+  range-same : (top bottom : ℕ) (high : High) → Range (Runs s) top bottom high → Range (Runs there) top bottom high
+  range-same top bottom high r =
+      record {
+        bottom = r .bottom;
+        lowest = r .lowest;
+        upper = r .upper;
+        some = r .some;
+        works = λ p q above low most. runs-there p q (r .works p q above low most);
+        only = λ p q above runs. r .only p q above (runs-from p q runs);
+      }
+
+  -- the buffer holds the same arcs
+  holds-same : (before : List ℕ) (count : ℕ) (after : List ℕ) (is : ends.Holds s before count after) → (held : ends.Holds there before count after) × (ends.arcsIn s is ≡ ends.arcsIn there held)
+  holds-same before count after is = go (is .circuit)
+    where
+      go : (is .steps ≡ []) ⊎ CircuitOf s (is .steps) → (held : ends.Holds there before count after) × (ends.arcsIn s is ≡ ends.arcsIn there held)
+      go (inl none) = (
+        record { steps = is .steps; circuit = inl none; counted = is .counted; written = is .written },
+        ap (λ (l : List Step). map (stepArc s) l) none ∙ ap (λ (l : List Step). map (stepArc there) l) (sym none),
+      )
+      go (inr circuit) =
+          let c = circuit-same (is .steps) circuit in
+          (record { steps = is .steps; circuit = inr (c .0); counted = is .counted; written = is .written }, c .1)
+
+  finds-same : (first₀ second₀ : List ℕ) (top bottom : ℕ) (high : High) (count₁ count₂ : ℕ) (first last : List ℕ)
+      → ends.Finds s first₀ second₀ top bottom high count₁ count₂ first last → ends.Finds there first₀ second₀ top bottom high count₁ count₂ first last
+  finds-same first₀ second₀ top bottom high count₁ count₂ first last is =
+      let a = holds-same first₀ count₁ first (is .first-holds) in
+      let b = holds-same second₀ count₂ last (is .second-holds) in
+      record {
+        range = range-same top bottom high (is .range);
+        bottom-small = is .bottom-small;
+        high-small = is .high-small;
+        first-holds = a .0;
+        second-holds = b .0;
+        low-shown = subst (λ (l : List Arc). LowShown l bottom top (ends.arcsIn there (a .0))) arcs-same (subst (λ (c : List Arc). LowShown (arcs s) bottom top c) (a .1) (is .low-shown));
+        high-shown = subst (λ (l : List Arc). HighShown l high (ends.arcsIn there (b .0))) arcs-same (subst (λ (c : List Arc). HighShown (arcs s) high c) (b .1) (is .high-shown));
+      }
+
+  lacks-same : (first₀ second₀ : List ℕ) (count₁ count₂ : ℕ) (first last : List ℕ) → ends.Lacks s first₀ second₀ count₁ count₂ first last → ends.Lacks there first₀ second₀ count₁ count₂ first last
+  lacks-same first₀ second₀ count₁ count₂ first last is =
+      let a = holds-same first₀ count₁ first (is .first-holds) in
+      let b = holds-same second₀ count₂ last (is .second-holds) in
+      record {
+        never = λ p q above runs. is .never p q above (runs-from p q runs);
+        first-holds = a .0;
+        second-holds = b .0;
+        none-shown = subst (λ (l : List Arc). NoneShown l (ends.arcsIn there (a .0)) (ends.arcsIn there (b .0))) arcs-same
+            (subst (λ (d : List Arc). NoneShown (arcs s) (ends.arcsIn there (a .0)) d) (b .1) (subst (λ (c : List Arc). NoneShown (arcs s) c (ends.arcsIn s (is .second-holds))) (a .1) (is .none-shown)));
+      }
+
+-- only a call that is not refused reads limits
+module _ (s : Sheet) (tables : List ℤ) (schedule : List ℕ) (same : refusal s ≡ refusal (lent s tables schedule)) (alike : refusal s ≡ 0 → Alike s tables schedule) where
+  module _ (p q : ℕ) (plan₀ circuit₀ : List ℕ) where
+    ask-refused : ask.askRefusal (lent s tables schedule) p q plan₀ circuit₀ ≡ ask.askRefusal s p q plan₀ circuit₀
+    ask-refused = ap (λ (r : ℕ). otherwise r (unless (ask.timed p q) 10 (unless (ask.roomy s plan₀ circuit₀) 9 0))) (sym same)
+
+    -- THEOREM: an outcome of Ask for the sheet is one for the other
+    pub ask-alike : (a : ask.Answer) (plan circuit : List ℕ) → ask.Outcome s p q plan₀ circuit₀ a plan circuit → ask.Outcome (lent s tables schedule) p q plan₀ circuit₀ a plan circuit
+    ask-alike (ask.accepted r) plan circuit x = (ask-refused ∙ x .0, accepts-same s tables schedule (alike (otherwise-none (refusal s) _ (x .0) .0)) p q plan₀ circuit₀ r plan circuit (x .1))
+    ask-alike (ask.refuted r) plan circuit x = (ask-refused ∙ x .0, shows-same s tables schedule (alike (otherwise-none (refusal s) _ (x .0) .0)) p q plan₀ circuit₀ r plan circuit (x .1))
+    ask-alike (ask.refused k) plan circuit x = (ask-refused ∙ x .0, x .1, x .2, x .3)
+
+  module _ (first₀ second₀ : List ℕ) where
+    ends-refused : ends.endsRefusal (lent s tables schedule) first₀ second₀ ≡ ends.endsRefusal s first₀ second₀
+    ends-refused = ap (λ (r : ℕ). otherwise r (unless (ends.roomy s first₀ second₀) 9 0)) (sym same)
+
+    -- THEOREM: an outcome of Ends for the sheet is one for the other
+    pub ends-alike : (a : ends.Answer) (first last : List ℕ) → ends.Outcome s first₀ second₀ a first last → ends.Outcome (lent s tables schedule) first₀ second₀ a first last
+    ends-alike (ends.found t b h c d) first last x = (ends-refused ∙ x .0, finds-same s tables schedule (alike (otherwise-none (refusal s) _ (x .0) .0)) first₀ second₀ t b h c d first last (x .1))
+    ends-alike (ends.none c d) first last x = (ends-refused ∙ x .0, lacks-same s tables schedule (alike (otherwise-none (refusal s) _ (x .0) .0)) first₀ second₀ c d first last (x .1))
+    ends-alike (ends.refused k) first last x = (ends-refused ∙ x .0, x .1, x .2, x .3)

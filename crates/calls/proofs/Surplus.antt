@@ -1,0 +1,91 @@
+-- "the surplus is neither read nor written": sheets that are the same but for surplus are refused alike, and every outcome of Ask and of Ends for the one
+-- is an outcome for the other, with the same answer and the same buffers. Each is compared with itself without surplus.
+use mathlib.Core.Path.{_≡_, refl, sym, ap, ap₂, _∙_, subst}
+use mathlib.Core.Bool.{Bool, true, false}
+use mathlib.Core.List.{List, _++_}
+use Prim.Native.Nat.{ℕ, pred, _%_, _≤_}
+use native.Mathlib.Omega.{arith}
+use native.Mathlib.Nat.{mod-lt, le-refl}
+use borrow.Author.Tests.{leb-true, leb-false, le-leb, lt-leb}
+use lib.Dec.{leb}
+use lib.ListN.{length, take, length-take}
+use lib.Seq.{getD-take, take-take, take-append-le}
+use lib.IntN.{ℤ}
+use Rattle.tables.specs.Sheets.{Sheet, sheet, noWindow, place, places, sized, scheduled, admitted, unless, refusal, otherwise}
+use Rattle.tables.proofs.Laws.{accepted}
+use Rattle.windows.specs.Windows.{number, entry, mode}
+use Rattle.windows.proofs.Limits.{number-small, place-below, mode-below}
+use Rattle.calls.specs.Ask as ask
+use Rattle.calls.specs.Ends as ends
+use Rattle.calls.specs.Surplus.{exact, SameButSurplus}
+use Rattle.calls.proofs.Alike.{Alike, ask-alike, ends-alike}
+
+-- ---- refusals
+
+-- whether a list is long enough is told by the places that are needed
+long-same : {A : Type 0} (k : ℕ) (l : List A) → leb k (length (take k l)) ≡ leb k (length l)
+long-same k l = go (leb k (length l)) refl
+  where
+    go : (b : Bool) → leb k (length l) ≡ b → leb k (length (take k l)) ≡ b
+    go true e = le-leb k (length (take k l)) (omega (arith, length-take k l, leb-true k (length l) e))
+    go false e = lt-leb k (length (take k l)) (omega (arith, length-take k l, leb-false k (length l) e))
+
+-- THEOREM: the surplus is not read by a refusal: a sheet without it has the same
+pub exact-refusal : (s : Sheet) → refusal (exact s) ≡ refusal s
+unfolding refusal sized scheduled admitted
+exact-refusal s =
+    rw (
+      long-same (places (s .n) (s .m)) (s .tables),
+      long-same (s .positions) (s .schedule),
+      take-take (places (s .n) (s .m)) (places (s .n) (s .m)) (s .tables) (le-refl _),
+      take-take (s .positions) (s .positions) (s .schedule) (le-refl _),
+    )
+
+-- ---- limits
+
+module _ (s : Sheet) where
+  -- the schedule is read below V, and the tables below 4·m·n²
+  exact-alike : refusal s ≡ 0 → Alike s (exact s .tables) (exact s .schedule)
+  exact-alike e h k i j to from =
+      let ok = accepted s e in
+      let n = s .n in
+      let t : mode (exact s) h ≡ mode s h = getD-take (s .positions) (s .schedule) (pred h % s .positions) 0 (mod-lt (pred h) (ok .size .some-positions)) in
+      let below = place-below n (s .m) (mode s h) (number k) i j (mode-below s ok h) (number-small k) (to .0) (to .1) (from .0) (from .1) in
+      sym (ap (λ (t : ℕ). entry (exact s) t k i j) t ∙ getD-take (places n (s .m)) (s .tables) (place n (mode s h) (number k) i j) noWindow below)
+
+  exact-back : refusal (exact s) ≡ 0 → Alike (exact s) (s .tables) (s .schedule)
+  exact-back e h k i j to from = sym (exact-alike (sym (exact-refusal s) ∙ e) h k i j to from)
+
+-- ---- sheets that are the same but for surplus
+
+-- THEOREM: such are a sheet that has all the places needed, and the same sheet with more behind them
+pub surplus-more : (s : Sheet) → places (s .n) (s .m) ≤ length (s .tables) → s .positions ≤ length (s .schedule) → (more : List ℤ) (others : List ℕ)
+    → SameButSurplus (sheet (s .n) (s .m) (s .positions) (s .tables ++ more) (s .schedule ++ others)) s
+surplus-more s long wide more others =
+    ap₂ (λ (t : List ℤ) (v : List ℕ). sheet (s .n) (s .m) (s .positions) t v) (take-append-le (places (s .n) (s .m)) (s .tables) more long) (take-append-le (s .positions) (s .schedule) others wide)
+
+module _ (s s′ : Sheet) (same : SameButSurplus s s′) where
+  -- THEOREM: they are refused alike, by themselves, by Ask and by Ends
+  pub surplus-refusal : refusal s ≡ refusal s′
+  surplus-refusal = sym (exact-refusal s) ∙ ap refusal same ∙ exact-refusal s′
+
+  pub surplus-ask-refusal : (p q : ℕ) (plan circuit : List ℕ) → ask.askRefusal s p q plan circuit ≡ ask.askRefusal s′ p q plan circuit
+  surplus-ask-refusal p q plan circuit =
+      ap₂ (λ (r : ℕ) (t : Sheet). otherwise r (unless (ask.timed p q) 10 (unless (ask.roomy t plan circuit) 9 0))) surplus-refusal same
+
+  pub surplus-ends-refusal : (first second : List ℕ) → ends.endsRefusal s first second ≡ ends.endsRefusal s′ first second
+  surplus-ends-refusal first second = ap₂ (λ (r : ℕ) (t : Sheet). otherwise r (unless (ends.roomy t first second) 9 0)) surplus-refusal same
+
+  -- THEOREM: every outcome of Ask for the one is an outcome for the other, with the same answer and the same buffers
+  pub surplus-ask : (p q : ℕ) (plan₀ circuit₀ : List ℕ) (a : ask.Answer) (plan circuit : List ℕ) → ask.Outcome s p q plan₀ circuit₀ a plan circuit → ask.Outcome s′ p q plan₀ circuit₀ a plan circuit
+  surplus-ask p q plan₀ circuit₀ a plan circuit x =
+      ask-alike (exact s′) (s′ .tables) (s′ .schedule) (exact-refusal s′) (exact-back s′) p q plan₀ circuit₀ a plan circuit
+      (subst (λ (t : Sheet). ask.Outcome t p q plan₀ circuit₀ a plan circuit) same
+      (ask-alike s (exact s .tables) (exact s .schedule) (sym (exact-refusal s)) (exact-alike s) p q plan₀ circuit₀ a plan circuit x))
+
+  -- THEOREM: every outcome of Ends for the one is an outcome for the other, with the same answer and the same buffers
+  pub surplus-ends : (first₀ second₀ : List ℕ) (a : ends.Answer) (first second : List ℕ) → ends.Outcome s first₀ second₀ a first second → ends.Outcome s′ first₀ second₀ a first second
+  surplus-ends first₀ second₀ a first second x =
+      ends-alike (exact s′) (s′ .tables) (s′ .schedule) (exact-refusal s′) (exact-back s′) first₀ second₀ a first second
+      (subst (λ (t : Sheet). ends.Outcome t first₀ second₀ a first second) same
+      (ends-alike s (exact s .tables) (exact s .schedule) (sym (exact-refusal s)) (exact-alike s) first₀ second₀ a first second x))
