@@ -1,6 +1,8 @@
 -- "the surplus is neither read nor written": sheets that are the same but for surplus are refused alike, and every outcome of Ask and of Ends for the one
 -- is an outcome for the other, with the same answer and the same buffers. Each is compared with itself without surplus.
+-- This is of what the calls answer; which of several circuits is given is left open there (Ask/Unique, Ends/Unique), and so is what it rests on.
 use mathlib.Core.Path.{_≡_, refl, sym, ap, ap₂, _∙_, subst}
+use mathlib.Core.Logic.{_≢_}
 use mathlib.Core.Bool.{Bool, true, false}
 use mathlib.Core.List.{List, _++_}
 use Prim.Native.Nat.{ℕ, pred, _%_, _≤_}
@@ -18,6 +20,8 @@ use Rattle.windows.proofs.Limits.{number-small, place-below, mode-below}
 use Rattle.calls.specs.Ask as ask
 use Rattle.calls.specs.Ends as ends
 use Rattle.calls.specs.Surplus.{exact, SameButSurplus}
+use Rattle.calls.proofs.Ask.Unique as asked
+use Rattle.calls.proofs.Ends.Unique as ended
 use Rattle.calls.proofs.Alike.{Alike, ask-alike, ends-alike}
 
 -- ---- refusals
@@ -83,9 +87,21 @@ module _ (s s′ : Sheet) (same : SameButSurplus s s′) where
       (subst (λ (t : Sheet). ask.Outcome t p q plan₀ circuit₀ a plan circuit) same
       (ask-alike s (exact s .tables) (exact s .schedule) (sym (exact-refusal s)) (exact-alike s) p q plan₀ circuit₀ a plan circuit x))
 
+  -- THEOREM: so what Ask answers for the one and for the other is equal, but for which circuit is given
+  pub surplus-asked : (p q : ℕ) (plan₀ circuit₀ : List ℕ) (a b : ask.Answer) (plan circuit plan′ circuit′ : List ℕ) → ask.Outcome s p q plan₀ circuit₀ a plan circuit → ask.Outcome s′ p q plan₀ circuit₀ b plan′ circuit′
+      → (ask.number a ≡ ask.number b) × (plan ≡ plan′) × (ask.number a ≢ 100 → (a ≡ b) × (circuit ≡ circuit′))
+  surplus-asked p q plan₀ circuit₀ a b plan circuit plan′ circuit′ x y =
+      asked.outcome-same s′ p q plan₀ circuit₀ a b plan circuit plan′ circuit′ (surplus-ask p q plan₀ circuit₀ a plan circuit x) y
+
   -- THEOREM: every outcome of Ends for the one is an outcome for the other, with the same answer and the same buffers
   pub surplus-ends : (first₀ second₀ : List ℕ) (a : ends.Answer) (first second : List ℕ) → ends.Outcome s first₀ second₀ a first second → ends.Outcome s′ first₀ second₀ a first second
   surplus-ends first₀ second₀ a first second x =
       ends-alike (exact s′) (s′ .tables) (s′ .schedule) (exact-refusal s′) (exact-back s′) first₀ second₀ a first second
       (subst (λ (t : Sheet). ends.Outcome t first₀ second₀ a first second) same
       (ends-alike s (exact s .tables) (exact s .schedule) (sym (exact-refusal s)) (exact-alike s) first₀ second₀ a first second x))
+
+  -- THEOREM: so what Ends answers for the one and for the other agrees: the same number, and the same ends or the same refusal
+  pub surplus-ended : (first₀ second₀ : List ℕ) (a b : ends.Answer) (first second first′ second′ : List ℕ) → ends.Outcome s first₀ second₀ a first second → ends.Outcome s′ first₀ second₀ b first′ second′
+      → ended.Agree a b
+  surplus-ended first₀ second₀ a b first second first′ second′ x y =
+      ended.outcome-same s′ first₀ second₀ a b first second first′ second′ (surplus-ends first₀ second₀ a first second x) y
