@@ -8,7 +8,7 @@ use lib.IntN.{ℤ}
 use Rattle.theory.specs.Arcs.{Arc, Rounds}
 use Rattle.theory.specs.Circuits.{Circuit, departures, FirstSmallest, Above}
 use Rattle.theory.specs.Ends.{High, Range, LowShown, HighShown, NoneShown}
-use Rattle.tables.specs.Sheets.{Sheet, sheet, absent, unless, refusal, otherwise}
+use Rattle.tables.specs.Sheets.{Sheet, sheet, absent, refusal}
 use Rattle.tables.proofs.Refusing.{otherwise-none}
 use Rattle.windows.specs.Windows.{Kind, Window, Event, entry, Has, mode}
 use Rattle.windows.specs.Inequalities.{Times, Solves, Runs}
@@ -181,7 +181,7 @@ module _ (s : Sheet) (tables : List ℤ) (schedule : List ℕ) (alike : Alike s 
 module _ (s : Sheet) (tables : List ℤ) (schedule : List ℕ) (same : refusal s ≡ refusal (lent s tables schedule)) (alike : refusal s ≡ 0 → Alike s tables schedule) where
   module _ (p q : ℕ) (plan₀ circuit₀ : List ℕ) where
     ask-refused : ask.askRefusal (lent s tables schedule) p q plan₀ circuit₀ ≡ ask.askRefusal s p q plan₀ circuit₀
-    ask-refused = ap (λ (r : ℕ). otherwise r (unless (ask.timed p q) 10 (unless (ask.roomy s plan₀ circuit₀) 9 0))) (sym same)
+    ask-refused = rw (← same)
 
     -- THEOREM: an outcome of Ask for the sheet is one for the other
     pub ask-alike : (a : ask.Answer) (plan circuit : List ℕ) → ask.Outcome s p q plan₀ circuit₀ a plan circuit → ask.Outcome (lent s tables schedule) p q plan₀ circuit₀ a plan circuit
@@ -191,7 +191,7 @@ module _ (s : Sheet) (tables : List ℤ) (schedule : List ℕ) (same : refusal s
 
   module _ (first₀ second₀ : List ℕ) where
     ends-refused : ends.endsRefusal (lent s tables schedule) first₀ second₀ ≡ ends.endsRefusal s first₀ second₀
-    ends-refused = ap (λ (r : ℕ). otherwise r (unless (ends.roomy s first₀ second₀) 9 0)) (sym same)
+    ends-refused = rw (← same)
 
     -- THEOREM: an outcome of Ends for the sheet is one for the other
     pub ends-alike : (a : ends.Answer) (first last : List ℕ) → ends.Outcome s first₀ second₀ a first last → ends.Outcome (lent s tables schedule) first₀ second₀ a first last

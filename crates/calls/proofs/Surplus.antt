@@ -13,9 +13,10 @@ use lib.Dec.{leb}
 use lib.ListN.{length, take, length-take}
 use lib.Seq.{getD-take, take-take, take-append-le}
 use lib.IntN.{ℤ}
-use Rattle.tables.specs.Sheets.{Sheet, sheet, noWindow, place, places, sized, scheduled, admitted, unless, refusal, otherwise}
+use Rattle.tables.specs.Sheets.{Sheet, sheet, noWindow, place, places, sized, scheduled, admitted, refusal}
 use Rattle.tables.proofs.Laws.{accepted}
 use Rattle.windows.specs.Windows.{number, entry, mode}
+use Rattle.windows.specs.Arcs.{nodes}
 use Rattle.windows.proofs.Limits.{number-small, place-below, mode-below}
 use Rattle.calls.specs.Ask as ask
 use Rattle.calls.specs.Ends as ends
@@ -74,11 +75,10 @@ module _ (s s′ : Sheet) (same : SameButSurplus s s′) where
   surplus-refusal = sym (exact-refusal s) ∙ ap refusal same ∙ exact-refusal s′
 
   pub surplus-ask-refusal : (p q : ℕ) (plan circuit : List ℕ) → ask.askRefusal s p q plan circuit ≡ ask.askRefusal s′ p q plan circuit
-  surplus-ask-refusal p q plan circuit =
-      ap₂ (λ (r : ℕ) (t : Sheet). otherwise r (unless (ask.timed p q) 10 (unless (ask.roomy t plan circuit) 9 0))) surplus-refusal same
+  surplus-ask-refusal p q plan circuit = rw (surplus-refusal, ap nodes same)
 
   pub surplus-ends-refusal : (first second : List ℕ) → ends.endsRefusal s first second ≡ ends.endsRefusal s′ first second
-  surplus-ends-refusal first second = ap₂ (λ (r : ℕ) (t : Sheet). otherwise r (unless (ends.roomy t first second) 9 0)) surplus-refusal same
+  surplus-ends-refusal first second = rw (surplus-refusal, ap nodes same)
 
   -- THEOREM: every outcome of Ask for the one is an outcome for the other, with the same answer and the same buffers
   pub surplus-ask : (p q : ℕ) (plan₀ circuit₀ : List ℕ) (a : ask.Answer) (plan circuit : List ℕ) → ask.Outcome s p q plan₀ circuit₀ a plan circuit → ask.Outcome s′ p q plan₀ circuit₀ a plan circuit
