@@ -13,14 +13,14 @@ use lib.Dec.{leb}
 use lib.ListN.{length, take, length-take}
 use lib.Seq.{getD-take, take-take, take-append-le}
 use lib.IntN.{ℤ}
-use Rattle.tables.specs.Sheets.{Sheet, sheet, noWindow, place, places, sized, scheduled, admitted, refusal}
+use Rattle.tables.specs.Sheets.{Sheet, sheet, exact, noWindow, place, places, sized, scheduled, admitted, refusal}
 use Rattle.tables.proofs.Laws.{accepted}
 use Rattle.windows.specs.Windows.{number, entry, mode}
 use Rattle.windows.specs.Arcs.{nodes}
 use Rattle.windows.proofs.Limits.{number-small, place-below, mode-below}
 use Rattle.calls.specs.Ask as ask
 use Rattle.calls.specs.Ends as ends
-use Rattle.calls.specs.Surplus.{exact, SameButSurplus}
+use Rattle.calls.specs.Surplus.{SameButSurplus}
 use Rattle.calls.proofs.Ask.Unique as asked
 use Rattle.calls.proofs.Ends.Unique as ended
 use Rattle.calls.proofs.Alike.{Alike, ask-alike, ends-alike}

@@ -16,7 +16,7 @@ use Rattle.numbers.specs.declared.Number.the-variants.{Value}
 use Rattle.numbers.proofs.Signs.{decoded-encoded}
 use Rattle.numbers.proofs.Ways.{read-groups}
 use Rattle.numbers.proofs.Reading as reading
-use Rattle.tables.specs.Sheets.{Sheet, sheet, inLimit, admits, all, within, places, sized, scheduled, admitted, refusal}
+use Rattle.tables.specs.Sheets.{Sheet, exact, inLimit, admits, all, within, places, sized, scheduled, admitted, refusal}
 use Rattle.tables.proofs.Laws.{both, accepted, passes, yes}
 use Rattle.sheet.specs.File.{Part, got, Window, rising, valueAt, windowAt, windowsAt, modeAt, modesAt, tablesOf, ended, tablesAt, scheduleAt, counts, countsAt, sheetAfter, sheetIn}
 use Rattle.sheet.specs.Written.{inGroups, windowsOf, records, modeNumbers, modesNumbers, sheetNumbers, written}
@@ -194,13 +194,9 @@ ended-there : (file : List ℕ) (at : ℕ) → Holds file at [] → at ≡ lengt
 unfolding inGroups
 ended-there file at k = omega (arith, length-drop at file, ap length (k .bytes), k .inside)
 
--- ---- the sheet without its surplus
-unfoldable pub exact : Sheet → Sheet
-exact s = sheet (s .n) (s .m) (s .positions) (take (places (s .n) (s .m)) (s .tables)) (take (s .positions) (s .schedule))
-
 -- reading a written sheet gives its tables and schedule back
 pub read-written : (s : Sheet) → refusal s ≡ 0 → sheetIn (written s) ≡ got (exact s) (length (written s))
-unfolding refusal sized scheduled admitted written sheetNumbers sheetIn sheetAfter tablesAt ended exact
+unfolding refusal sized scheduled admitted written sheetNumbers sheetIn sheetAfter tablesAt ended
 read-written s e =
     let file = written s in
     let z = accepted s e .size in

@@ -59,6 +59,11 @@ all f (a ∷ rest) = f a && all f rest
 abbrev pub within : ℕ → ℕ → Bool
 within most k = leb 1 k && leb k most
 
+-- "Longer buffers than needed are allowed; the surplus is neither read nor written." The sheet without its surplus: 4·m·n² places of the tables and
+-- V of the schedule. Of lists that are shorter, all that is there.
+abbrev pub exact : Sheet → Sheet
+exact s = sheet (s .n) (s .m) (s .positions) (take (places (s .n) (s .m)) (s .tables)) (take (s .positions) (s .schedule))
+
 -- 4: "n, m or V past its limit; in memory also tables shorter than 4·m·n² or schedule shorter than V"
 unfoldable pub sized : Sheet → Bool
 sized s = within 12 (s .n) && within 8 (s .m) && within 16 (s .positions) && leb (places (s .n) (s .m)) (length (s .tables)) && leb (s .positions) (length (s .schedule))

@@ -9,10 +9,10 @@ use lib.Dec.{leb, eqb}
 use lib.ListN.{length, take, drop}
 use lib.Seq.{take-at}
 use Rattle.numbers.specs.Groups.{pick}
-use Rattle.tables.specs.Sheets.{Sheet, refusal}
+use Rattle.tables.specs.Sheets.{Sheet, exact, refusal}
 use Rattle.sheet.specs.File.{got, sheetIn}
 use Rattle.sheet.specs.Written.{written}
-use Rattle.sheet.proofs.There.{exact, read-written}
+use Rattle.sheet.proofs.There.{read-written}
 use Rattle.writer.specs.Answers.{Writing, writing, unwritten, writeInto, Writes}
 use Rattle.writer.specs.declared.Written.the-variants as wrote
 
