@@ -90,27 +90,27 @@ fn tell_found(
     )
 }
 
-// Finds the ends of an admitted sheet, and puts the lines of what it finds.
+// Finds the ends of an admitted sheet, with their circuits in the two buffers, and puts the lines of what it finds.
 fn tell_sheet(
     n: usize,
     m: usize,
     positions: usize,
     tables: &[i32],
     schedule: &[u8],
-    first: &mut [u8],
-    second: &mut [u8],
+    one: &mut [u8],
+    two: &mut [u8],
     out: &mut [u8],
 ) -> usize
-    requires { ⌜ (refusal (sheet n m positions (now tables) (now schedule)) ≡ 0) × (length (now first) ≡ 768) × (length (now second) ≡ 768) ⌝ }
+    requires { ⌜ (refusal (sheet n m positions (now tables) (now schedule)) ≡ 0) × (length (now one) ≡ 768) × (length (now two) ≡ 768) ⌝ }
     ensures { λ r. ⌜ Stands (λ text. TellsEnds (sheet n m positions (now (tables .entry)) (now (schedule .entry))) text ⊎ TellsNone (sheet n m positions (now (tables .entry)) (now (schedule .entry))) text) (now (out .entry)) r (now (out .exit)) ⌝ }
 {
-    match ends::ends(n, m, positions, tables, schedule, first, second) {
+    match ends::ends(n, m, positions, tables, schedule, one, two) {
         Ended::Found {
             top,
             bottom,
             high,
-            first: arcs,
-            second: others,
+            first,
+            second,
         } => tell_found(
             n,
             m,
@@ -120,16 +120,13 @@ fn tell_sheet(
             top,
             bottom,
             high,
+            one,
             first,
-            arcs,
+            two,
             second,
-            others,
             out,
         ),
-        Ended::None {
-            first: arcs,
-            second: others,
-        } => put_none(out, first, arcs, second, others),
+        Ended::None { first, second } => put_none(out, one, first, two, second),
         Ended::Refused { number: _ } => 0,
     }
 }

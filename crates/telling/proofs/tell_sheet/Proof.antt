@@ -22,15 +22,15 @@ tell-found-requires c κs =
     ended-found _ (s .pre .0) _ _ (s .pre .1) (s .pre .2) (e .result) _ _ (e .ensures) _ _ _ _ _ (c .before .before .before .before .top .given .1) (e .kept .1 .1 .1 .1 .1 .0 ∙ s .pre .1) (e .kept .1 .1 .1 .1 .1 .1 .0 ∙ s .pre .2)
 
 -- src/lib.rt:104:20
-enum-known-arcs : tie.Need-enum-known-arcs
-enum-known-arcs c = search needs
+enum-known-first : tie.Need-enum-known-first
+enum-known-first c = search needs
 
 -- src/lib.rt:106:14
 put-none-requires : tie.Need-put-none-requires
 put-none-requires c κs =
     let s = c .before .before .before .before .before .before .before .before .before .before .before .before .before .before .before .before .before in
     let e = c .before .before .before .before .before .before .before .before .before .before .ends in
-    let l = ended-none _ (s .pre .0) _ _ (s .pre .1) (s .pre .2) (e .result) _ _ (e .ensures) _ _ (c .before .before .before .before .arcs .given .1) in
+    let l = ended-none _ (s .pre .0) _ _ (s .pre .1) (s .pre .2) (e .result) _ _ (e .ensures) _ _ (c .before .before .before .before .first .given .1) in
     let a = few-192 _ (s .pre .0) _ _ _ (l .first-holds) in
     let b = few-192 _ (s .pre .0) _ _ _ (l .second-holds) in
     (a, b, omega (arith, a, e .kept .1 .1 .1 .1 .1 .0, s .pre .1), omega (arith, b, e .kept .1 .1 .1 .1 .1 .1 .0, s .pre .2))
@@ -72,7 +72,7 @@ returns-2 : tie.Need-returns-2
 returns-2 c =
     let s = c .before .before .before .before .before .before .before .before .before .before .before .before .before .before .before .before .before .before .before .before in
     let e = c .before .before .before .before .before .before .before .before .before .before .before .before .before .ends in
-    tells-none _ (s .pre .0) (none-told _ (s .pre .0) (ended-none _ (s .pre .0) _ _ (s .pre .1) (s .pre .2) (e .result) _ _ (e .ensures) _ _ (c .before .before .before .before .before .before .before .arcs .given .1)) (c .before .before .put-none .ensures))
+    tells-none _ (s .pre .0) (none-told _ (s .pre .0) (ended-none _ (s .pre .0) _ _ (s .pre .1) (s .pre .2) (e .result) _ _ (e .ensures) _ _ (c .before .before .before .before .before .before .before .first .given .1)) (c .before .before .put-none .ensures))
 
 -- src/lib.rt:80:1
 same-length-7 : tie.Need-same-length-7
@@ -93,7 +93,7 @@ tell-sheet-spec =
     ends-requires
     enum-known-top
     tell-found-requires
-    enum-known-arcs
+    enum-known-first
     put-none-requires
     enum-told
     same-length
