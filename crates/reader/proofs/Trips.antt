@@ -12,6 +12,7 @@ use Rattle.numbers.specs.Groups.{pick}
 use Rattle.numbers.proofs.Ways.{Bytes}
 use Rattle.tables.specs.Sheets.{Sheet, sheet, places, refusal}
 use Rattle.tables.proofs.Laws.{few-places}
+use Rattle.sheet.proofs.Answers.{filled}
 use Rattle.sheet.specs.File.{Part, got, refused, sheetIn}
 use Rattle.sheet.specs.Written.{written}
 use Rattle.sheet.proofs.Sheets.{sheeted}
@@ -20,10 +21,6 @@ use Rattle.sheet.proofs.Back.{write-read}
 use Rattle.sheet.proofs.Surplus.{surplus-written, surplus-admitted}
 use Rattle.reader.specs.Answers.{Reading, reading, unread, readOf, Reads}
 use Rattle.reader.specs.declared.Read.the-variants as read
-
--- a list of values is not the empty one
-filled : (x : ℕ) (xs : List ℕ) → x ∷ xs ≡ [] → ⊥
-filled x xs e = let z : _≡_ {A = ℕ} 0 1 = cc in omega arith
 
 -- ---- what "done" says of the reader
 pub record DoneRead (file : List ℕ) (t₀ : List ℤ) (v₀ : List ℕ) (n m positions : ℕ) (t : List ℤ) (v : List ℕ) : Type 0 where

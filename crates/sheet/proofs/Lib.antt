@@ -18,3 +18,4 @@ pub mod Surplus
 pub mod Longest
 pub mod Front
 pub mod Samples
+pub mod Answers

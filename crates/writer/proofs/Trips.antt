@@ -10,6 +10,7 @@ use lib.ListN.{length, take, drop}
 use lib.Seq.{take-at}
 use Rattle.numbers.specs.Groups.{pick}
 use Rattle.tables.specs.Sheets.{Sheet, exact, refusal}
+use Rattle.sheet.proofs.Answers.{filled}
 use Rattle.sheet.specs.File.{got, sheetIn}
 use Rattle.sheet.specs.Written.{written}
 use Rattle.sheet.proofs.There.{read-written}
@@ -22,10 +23,6 @@ pub record Wrote (s : Sheet) (out₀ : List ℕ) (k : ℕ) (out : List ℕ) : Ty
   pub long : k ≡ length (written s)
   pub fits : k ≤ length out₀
   pub bytes : out ≡ written s ++ drop k out₀
-
--- a list of values is not the empty one
-filled : (x : ℕ) (xs : List ℕ) → x ∷ xs ≡ [] → ⊥
-filled x xs e = let z : _≡_ {A = ℕ} 0 1 = cc in omega arith
 
 pub done-written : (s : Sheet) (out₀ : List ℕ) (k : ℕ) (out : List ℕ) → Writes s out₀ (wrote.Done k) out → Wrote s out₀ k out
 done-written s out₀ k out e = judged (eqb (refusal s) 0) refl e
