@@ -36,11 +36,12 @@ pub fn ends(ends: Ends, sheet: &Measured) -> Question {
     let mut first = vec![0; 4 * sheet.nodes()];
     let mut second = vec![0; 4 * sheet.nodes()];
     Box::new(move || {
-        let mut values = [0; VALUES];
+        // no value is so large, so that it tells a place that was not written
+        let mut values = [u64::MAX; VALUES];
         let number = ends(lent(&sheet), &mut first, &mut second, &mut values);
-        let [low_top, low_bottom, is_closed, high_top, high_bottom, ..] = values;
-        match (number, is_closed) {
-            (0, 0) => [0, low_top, low_bottom, 0, 0, 0],
+        let [low_top, low_bottom, high_top, high_bottom, fifth, ..] = values;
+        match (number, fifth) {
+            (0, u64::MAX) => [0, low_top, low_bottom, 0, 0, 0],
             (0, _) => [0, low_top, low_bottom, 1, high_top, high_bottom],
             _ => [u64::from(number), 0, 0, 0, 0, 0],
         }

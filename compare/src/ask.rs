@@ -48,9 +48,13 @@ pub fn compare(ask: Ask, loan: &Loan, random: &mut Random) -> Result<u32, Differ
         loan.room().circuit,
     );
     let checked = match &right {
-        Ok(Answer::Accepted { plan, rounds }) => is_accepted(&left, plan, *rounds),
-        Ok(Answer::Refuted { .. }) => is_refuted(&left, loan),
         Err(refusal) => is_refused(&left, *refusal),
+        // held to the tables of the rounds, whatever the second program answers
+        Ok(answer) if number == 100 => {
+            is_refuted(&left, loan).and_then(|()| same_number(number, answer.number()))
+        }
+        Ok(Answer::Accepted { plan, rounds }) => is_accepted(&left, plan, *rounds),
+        Ok(Answer::Refuted { .. }) => same_number(number, 100),
     };
     checked.map(|()| number).map_err(|what| Difference {
         what,
@@ -71,18 +75,20 @@ fn is_accepted(left: &Left, plan: &[i64], rounds: usize) -> Result<(), String> {
 }
 
 /// "A refutation writes the circuit's places and no plan, and returns its arc count."
-/// Any circuit above zero will do.
+/// Any circuit above zero will do. "On a refutation the number is N": none of the tables
+/// 0 to N-1 equals the one after it.
 fn is_refuted(left: &Left, loan: &Loan) -> Result<(), String> {
     same_number(left.number, 100)?;
-    let count = left.values.contents()[0];
-    named("values", left.values.holds(&[count]))?;
-    let arcs = named("circuit", circuit::taken(&left.circuit, count))?;
     let sheet = loan
         .lent_to_second()
         .admit()
         .map_err(|refusal| refusal.to_string())?;
     let time =
         CycleTime::within_limits(loan.p(), loan.q()).map_err(|refusal| refusal.to_string())?;
+    named("rounds", check::never_still(&sheet, time))?;
+    let count = left.values.contents()[0];
+    named("values", left.values.holds(&[count]))?;
+    let arcs = named("circuit", circuit::taken(&left.circuit, count))?;
     named("circuit", check::refutes(&sheet, time, &arcs))?;
     named("plan", left.plan.holds(&[]))
 }
@@ -151,6 +157,27 @@ mod tests {
             stub::ask(lent, p, q, plan, circuit, values)
         };
         assert!(says(needless_arc, 0, "circuit: place 0"));
+    }
+
+    #[test]
+    fn wrong_refutations_are_reported() {
+        let always: Ask = |_, _, _, _, _, values| {
+            values[0] = 1;
+            100
+        };
+        let still = compare(always, &loan(0), &mut Random::new(1, 1)).unwrap_err();
+        assert!(still.what.starts_with("rounds: table "), "{}", still.what);
+        assert!(still.what.ends_with(" equals the one after it"));
+        for number in [4, 5, 6, 9, 10] {
+            assert!(says(always, number, "the number is 100, not "));
+        }
+        // the second program refutes, and a circuit is still asked for
+        assert!(says(always, 100, "circuit: there is no window"));
+    }
+
+    #[test]
+    fn wrong_acceptances_are_reported() {
+        assert!(says(|_, _, _, _, _, _| 0, 100, "the number is 0, not 100"));
     }
 
     #[test]

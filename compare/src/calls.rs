@@ -34,8 +34,8 @@ pub type Write = fn(Lent<'_>, &mut [u8], &mut [u64]) -> u32;
 pub type Ask = fn(Lent<'_>, u64, u64, &mut [u64], &mut [u8], &mut [u64]) -> u32;
 
 /// Ends: a sheet; two circuits and values to be written. With 0 come low's top and
-/// bottom, 1 if high is a fraction and 0 if it is open, high's top and bottom, and the
-/// arc counts of low's circuit and of high's; with 101 the arc counts of both circuits.
+/// bottom, high's where it is not open, and the arc counts of low's circuit and of
+/// high's; with 101 the arc counts of both circuits.
 pub type Ends = fn(Lent<'_>, &mut [u8], &mut [u8], &mut [u64]) -> u32;
 
 /// The C call: a file, p and q.

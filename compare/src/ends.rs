@@ -66,25 +66,23 @@ fn is_answered(left: &Left, loan: &Loan, right: &Answer) -> Result<(), String> {
     check::ends(&sheet, &claim).map_err(|fault| fault.to_string())
 }
 
-/// The ends as the call gave them, if they are these.
-///
-/// Where high is open, 01 says nothing of the two values that stand for its top and
-/// bottom, and they are left out of account.
+/// The ends as the call gave them, if they are these: low, high where it is not open,
+/// and the two arc counts.
 fn found(left: &Left, right: Span) -> Result<Found, String> {
-    let values = &left.values.contents()[..7];
-    named("values", left.values.holds(values))?;
     let mut span = vec![right.low.top, right.low.bottom];
-    match right.high {
-        Some(high) => span.extend([1, high.top, high.bottom]),
-        None => span.push(0),
+    if let Some(high) = right.high {
+        span.extend([high.top, high.bottom]);
     }
-    for (place, (&value, &right)) in values.iter().zip(&span).enumerate() {
+    let (ends, rest) = left.values.contents().split_at(span.len());
+    for (place, (&value, &right)) in ends.iter().zip(&span).enumerate() {
         if i64::try_from(value) != Ok(right) {
             return Err(format!("values: place {place} holds {value}, not {right}"));
         }
     }
-    let low_circuit = arcs("first circuit", &left.first, values[5])?;
-    let high_circuit = arcs("second circuit", &left.second, values[6])?;
+    let values: Vec<u64> = [ends, &rest[..2]].concat();
+    named("values", left.values.holds(&values))?;
+    let low_circuit = arcs("first circuit", &left.first, rest[0])?;
+    let high_circuit = arcs("second circuit", &left.second, rest[1])?;
     Ok(Found {
         low: right.low,
         low_circuit,
@@ -170,40 +168,40 @@ mod tests {
 
     #[test]
     fn wrong_ends_are_reported() {
-        let closed = loan(0, |values| values[0] > 0 && values[2] == 1);
+        let closed = loan(0, |values| values[0] > 0 && values[5] > 0);
         let higher: Ends = |lent, first, second, values| {
             let number = stub::ends(lent, first, second, values);
-            values[3] += 1;
+            values[2] += 1;
             number
         };
-        assert!(said(higher, &closed).starts_with("values: place 3"));
+        assert!(said(higher, &closed).starts_with("values: place 2"));
         let open: Ends = |lent, first, second, values| {
             let number = stub::ends(lent, first, second, values);
-            values[2] = 0;
+            values.copy_within(4..6, 2);
             number
         };
-        assert!(said(open, &closed).starts_with("values: place 2"));
+        assert!(said(open, &closed).starts_with("values: place "));
         let no_low_circuit: Ends = |lent, first, second, values| {
             let mut room = first.to_vec();
             let number = stub::ends(lent, &mut room, second, values);
-            values[5] = 0;
+            values[4] = 0;
             number
         };
         assert_eq!(said(no_low_circuit, &closed), "the circuit has no arcs");
         let needless_value: Ends = |lent, first, second, values| {
-            values[7] ^= 1;
+            values[6] ^= 1;
             stub::ends(lent, first, second, values)
         };
-        assert!(said(needless_value, &closed).starts_with("values: place 7"));
+        assert!(said(needless_value, &closed).starts_with("values: place 6"));
     }
 
     #[test]
     fn a_circuit_for_an_open_high_is_reported() {
-        let open = loan(0, |values| values[0] > 0 && values[2] == 0);
+        let open = loan(0, |values| values[0] > 0 && values[5] == 0);
         let with_circuit: Ends = |lent, first, second, values| {
             let number = stub::ends(lent, first, second, values);
             second[..4].copy_from_slice(&first[..4]);
-            values[6] = 1;
+            values[3] = 1;
             number
         };
         assert!(said(with_circuit, &open).starts_with("second circuit: there are arcs"));

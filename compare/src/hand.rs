@@ -149,14 +149,17 @@ fn ask(calls: &Calls, held: &Held, sheet: &Sheet, p: u64, q: u64) -> Result<Stri
 fn ends(calls: &Calls, held: &Held, sheet: &Sheet) -> Result<String, String> {
     let ends = calls.ends.ok_or("there is no Ends")?;
     let (mut first, mut second) = ([0; CIRCUIT], [0; CIRCUIT]);
-    let mut values = [0; VALUES];
-    match ends(held.lent(), &mut first, &mut second, &mut values) {
-        0 if values[2] == 0 => Ok(format!("{}/{}, open", values[0], values[1])),
-        0 => {
-            let [a, b, c, d] = [0, 1, 3, 4].map(|place| values[place]);
+    // no value is so large, so that it tells a place that was not written
+    let mut values = [u64::MAX; VALUES];
+    let number = ends(held.lent(), &mut first, &mut second, &mut values);
+    let count = values.iter().filter(|&&value| value != u64::MAX).count();
+    match (number, count) {
+        (0, 4) => Ok(format!("{}/{}, open", values[0], values[1])),
+        (0, 6) => {
+            let [a, b, c, d, ..] = values;
             Ok(format!("{a}/{b}, {c}/{d}"))
         }
-        101 => {
+        (101, 2) => {
             let first = circuit_of(sheet, &first, values[0])?;
             if values[1] == 0 {
                 let (w, c) = (first.w(), first.c());
@@ -166,7 +169,8 @@ fn ends(calls: &Calls, held: &Held, sheet: &Sheet) -> Result<String, String> {
             let [first, second] = [limit(&first), limit(&second)];
             Ok(format!("none, two circuits, limits {first} and {second}"))
         }
-        number => Ok(number.to_string()),
+        (number, 0) => Ok(number.to_string()),
+        (number, _) => Err(format!("{number} with {count} values")),
     }
 }
 

@@ -222,6 +222,40 @@ mod tests {
     }
 
     #[test]
+    fn what_is_stated_stands_in_every_table() {
+        let stated = |file: &str, call: &str, stack: String| {
+            let row = format!("\n| {call} | {stack} |\n");
+            assert!(file.contains(&row), "no row {row:?}");
+        };
+        let (here, readme) = (
+            include_str!("../README.md"),
+            include_str!("../../README.md"),
+        );
+        for (kind, in_this_package, in_readme) in [
+            (
+                Kind::Reader,
+                "reader, writer",
+                "`read_sheet`, `write_sheet`",
+            ),
+            (
+                Kind::Writer,
+                "reader, writer",
+                "`read_sheet`, `write_sheet`",
+            ),
+            (Kind::Ask, "Ask", "`ask`"),
+            (Kind::Ends, "Ends", "`ends`"),
+            (Kind::Host, "host", "`tamulehk_ask`"),
+            (Kind::Report, "report", "`report`"),
+        ] {
+            stated(here, in_this_package, format!("{} KiB", limit(kind)));
+            stated(readme, in_readme, limit(kind).to_string());
+        }
+        let header = include_str!("../../include/tamulehk.h");
+        let constant = format!("\n#define TAMULEHK_STACK {}u\n", 1024 * limit(Kind::Host));
+        assert!(header.contains(&constant));
+    }
+
+    #[test]
     fn wrong_answers_fail() {
         let mut calls = CALLS;
         calls.host = |_, _, _| 7;

@@ -72,7 +72,7 @@ pub fn ask(
             put(values, &[rounds as u64]);
             0
         }
-        Ok(Answer::Refuted { circuit: arcs, .. }) => {
+        Ok(Answer::Refuted { circuit: arcs }) => {
             put(circuit, &circuit::bytes(&arcs));
             put(values, &[arcs.len() as u64]);
             100
@@ -84,23 +84,19 @@ pub fn ask(
 pub fn ends(lent: Lent<'_>, first: &mut [u8], second: &mut [u8], values: &mut [u64]) -> u32 {
     match with_second(lent, |lent| calls::ends(lent, first.len(), second.len())) {
         Ok(Ends::Found(found)) => {
-            let (is_closed, top, bottom, arcs) = match found.high {
-                High::Open => (0, 0, 0, Vec::new()),
-                High::At { end, circuit } => (1, end.top, end.bottom, circuit),
+            let mut list = vec![found.low.top, found.low.bottom];
+            let arcs = match found.high {
+                High::Open => Vec::new(),
+                High::At { end, circuit } => {
+                    list.extend([end.top, end.bottom]);
+                    circuit
+                }
             };
             put(first, &circuit::bytes(&found.low_circuit));
             put(second, &circuit::bytes(&arcs));
-            let counts = [found.low_circuit.len(), arcs.len()].map(|count| count as i64);
-            let list = [
-                found.low.top,
-                found.low.bottom,
-                is_closed,
-                top,
-                bottom,
-                counts[0],
-                counts[1],
-            ];
-            put(values, &list.map(|value| value as u64));
+            list.extend([found.low_circuit.len(), arcs.len()].map(|count| count as i64));
+            let list: Vec<u64> = list.iter().map(|&value| value as u64).collect();
+            put(values, &list);
             0
         }
         Ok(Ends::None(none)) => {

@@ -16,12 +16,11 @@ pub enum Answer {
         /// The rounds reported.
         rounds: usize,
     },
-    /// 100: it does not.
+    /// 100: it does not. "A refutation writes the circuit's places and no plan, and
+    /// returns its arc count": no number of rounds is part of it.
     Refuted {
         /// A circuit with total weight above zero.
         circuit: Vec<ArcName>,
-        /// "On a refutation the number is N."
-        rounds: usize,
     },
 }
 
@@ -42,10 +41,12 @@ pub fn ask(net: &Net, time: CycleTime) -> Answer {
             rounds: rounds_to(net, time, &plan),
             plan,
         },
-        Err(circuit) => Answer::Refuted {
-            circuit: circuit.names(),
-            rounds: net.nodes,
-        },
+        Err(circuit) => {
+            assert_never_still(net, time);
+            Answer::Refuted {
+                circuit: circuit.names(),
+            }
+        }
     }
 }
 
@@ -69,4 +70,12 @@ fn rounds_to(net: &Net, time: CycleTime, plan: &[i64]) -> usize {
     let (rounds, table) = rounds::settle(net, time).expect("a plan exists, so the tables settle");
     assert_eq!(table, plan, "the tables end in the earliest plan");
     rounds
+}
+
+/// "The rounds reported on acceptance are the least r with table r+1 equal to table r,
+/// from 0 to N-1 ... On a refutation the number is N": none of the tables 0 to N-1 is
+/// equal to the one after it, or one of the two methods is wrong.
+fn assert_never_still(net: &Net, time: CycleTime) {
+    let settled = rounds::settle(net, time);
+    assert_eq!(settled, None, "no plan exists, so no table stands still");
 }

@@ -15,7 +15,7 @@ use crate::arc::ArcName;
 use crate::cycle_time::CycleTime;
 use crate::fraction::Fraction;
 
-pub use self::answer::answer;
+pub use self::answer::{answer, never_still};
 pub use self::circuit::{circuit, refutes};
 pub use self::ends::ends;
 pub use self::plan::{is_earliest, keeps_windows};
@@ -45,6 +45,8 @@ pub enum Fault {
     NotAboveZero,
     /// The rounds are others.
     WrongRounds(usize),
+    /// This table equals the one after it, and so the cycle time works.
+    StandsStill(usize),
     /// A list that should be empty has arcs.
     NeedlessArcs,
     /// The fraction is not in lowest terms with a bottom of 1..n.
@@ -69,6 +71,7 @@ impl fmt::Display for Fault {
             Fault::NotTurned => write!(f, "the first arc does not leave the smallest node"),
             Fault::NotAboveZero => write!(f, "the circuit's total is not above zero"),
             Fault::WrongRounds(rounds) => write!(f, "the rounds are not {rounds}"),
+            Fault::StandsStill(table) => write!(f, "table {table} equals the one after it"),
             Fault::NeedlessArcs => write!(f, "there are arcs where there should be none"),
             Fault::NotLowest(end) => write!(f, "{end} is not in lowest terms with bottom 1..n"),
             Fault::WrongCircuit => write!(f, "W or c of the circuit is wrong for its place"),

@@ -137,7 +137,7 @@ fn ask_text(bytes: &[u8], p: u64, q: u64) -> Result<String, Refusal> {
             let times = report::by_position(&plan, sheet.n());
             format!("accepted {rounds}\n{}", report::time_lines(&times))
         }
-        Answer::Refuted { circuit, .. } => {
+        Answer::Refuted { circuit } => {
             format!("refuted {}\n{}", circuit.len(), report::arc_lines(&circuit))
         }
     })

@@ -74,7 +74,7 @@ impl Plan {
                 rounds,
                 times: by_position(&plan, net.n),
             },
-            Answer::Refuted { circuit, .. } => panic!("low = {low} is refuted by {circuit:?}"),
+            Answer::Refuted { circuit } => panic!("low = {low} is refuted by {circuit:?}"),
         }
     }
 }

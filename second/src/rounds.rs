@@ -6,7 +6,8 @@ use crate::cycle_time::CycleTime;
 /// The rounds and the plan, or nothing if the cycle time is refuted.
 ///
 /// "The rounds reported on acceptance are the least r with table r+1 equal to
-/// table r, from 0 to N-1, and table r is the plan."
+/// table r, from 0 to N-1, and table r is the plan. On a refutation the number is
+/// N": there is no such r, and all N rounds change something.
 pub fn settle(net: &Net, time: CycleTime) -> Option<(usize, Vec<i64>)> {
     let mut table = vec![0; net.nodes];
     for round in 0..net.nodes {

@@ -35,8 +35,7 @@ fn assert_refuted<const COUNT: usize>(
     let circuit = arcs(circuit);
     let time = CycleTime::within_limits(p, q).unwrap();
     assert_eq!(check::circuit(sheet, &circuit).unwrap().total(time), total);
-    let rounds = sheet.nodes();
-    assert_eq!(ask(sheet, p, q), Answer::Refuted { circuit, rounds });
+    assert_eq!(ask(sheet, p, q), Answer::Refuted { circuit });
 }
 
 fn ends(sheet: &Sheet) -> Ends {

@@ -73,13 +73,22 @@ fn answers_with_other_rounds_are_wrong() {
     assert_eq!(accepted(1), Ok(()));
     assert_eq!(accepted(0), Err(Fault::WrongRounds(0)));
     assert_eq!(accepted(2), Err(Fault::WrongRounds(2)));
-    let refuted = |rounds| {
+}
+
+#[test]
+fn a_refutation_where_a_table_stands_still_is_wrong() {
+    let sheet = single(2, "2:1,2=2 2:2,1=3");
+    let refuted = |p, q| {
         let circuit = arcs([[2, 1, 2, 1], [2, 1, 1, 2]]);
-        let time = CycleTime { p: 2, q: 1 };
-        check::answer(&sheet, time, &Answer::Refuted { circuit, rounds })
+        check::answer(&sheet, CycleTime { p, q }, &Answer::Refuted { circuit })
     };
-    assert_eq!(refuted(2), Ok(()));
-    assert_eq!(refuted(1), Err(Fault::WrongRounds(1)));
+    assert_eq!(refuted(2, 1), Ok(()));
+    assert_eq!(refuted(5, 2), Err(Fault::NotAboveZero));
+    let still = |p, q| check::never_still(&sheet, CycleTime { p, q });
+    assert_eq!(still(2, 1), Ok(()));
+    assert_eq!(still(499, 200), Ok(()));
+    assert_eq!(still(5, 2), Err(Fault::StandsStill(1)));
+    assert_eq!(still(3, 1), Err(Fault::StandsStill(0)));
 }
 
 fn fraction(top: i64, bottom: i64) -> Fraction {
@@ -162,6 +171,82 @@ fn a_high_below_zero_takes_one_circuit() {
     let ends = ends::find(&Net::new(&sheet));
     assert_eq!(ends, Ends::None(none));
     assert_eq!(check::ends(&sheet, &ends), Ok(()));
+}
+
+/// Fast at 5, slow at 9; the two events 3 apart, to the unit: a circuit whose W and c
+/// are both zero, and so its total at every cycle time.
+const STILL: &str = "0:2,1=3 1:2,1=3 2:1,1=5 3:1,1=9";
+const STILL_CIRCUIT: [[u64; 4]; 2] = [[0, 1, 2, 1], [1, 1, 2, 1]];
+
+/// What the check makes of the ends 5/1 and 9/1 of that sheet with these circuits.
+fn ends_by<const LOW: usize, const HIGH: usize>(
+    low_circuit: [[u64; 4]; LOW],
+    high_circuit: [[u64; 4]; HIGH],
+) -> Result<(), Fault> {
+    let found = Found {
+        low: fraction(5, 1),
+        low_circuit: arcs(low_circuit),
+        high: High::At {
+            end: fraction(9, 1),
+            circuit: arcs(high_circuit),
+        },
+    };
+    check::ends(&single(2, STILL), &Ends::Found(found))
+}
+
+#[test]
+fn a_circuit_of_c_zero_is_none_for_low() {
+    assert_eq!(ends_by([[2, 1, 1, 1]], [[3, 1, 1, 1]]), Ok(()));
+    let still = ends_by(STILL_CIRCUIT, [[3, 1, 1, 1]]);
+    assert_eq!(still, Err(Fault::WrongCircuit));
+}
+
+#[test]
+fn a_circuit_of_c_zero_is_none_for_high() {
+    let still = ends_by([[2, 1, 1, 1]], STILL_CIRCUIT);
+    assert_eq!(still, Err(Fault::WrongCircuit));
+}
+
+/// What the check makes of a "none" of a sheet with two events.
+fn none_by<const FIRST: usize, const SECOND: usize>(
+    windows: &str,
+    first: [[u64; 4]; FIRST],
+    second: [[u64; 4]; SECOND],
+) -> Result<(), Fault> {
+    let none = Contradiction {
+        first: arcs(first),
+        second: arcs(second),
+    };
+    check::ends(&single(2, windows), &Ends::None(none))
+}
+
+#[test]
+fn a_circuit_of_w_zero_contradicts_nothing() {
+    // c is at least 0, as it has to be, and every cycle time keeps such windows.
+    assert_eq!(none_by("3:1,1=-1", [[3, 1, 1, 1]], []), Ok(()));
+    let at_zero = none_by("3:1,1=0", [[3, 1, 1, 1]], []);
+    assert_eq!(at_zero, Err(Fault::WrongCircuit));
+    assert_eq!(none_by(STILL, STILL_CIRCUIT, []), Err(Fault::WrongCircuit));
+}
+
+/// At least 6 apart and at most 5: a circuit of W = 1 and c = 0, which is a "none" by
+/// itself and has no limit to be compared with another's.
+const CROSSED: [[u64; 4]; 2] = [[0, 1, 2, 1], [1, 1, 2, 1]];
+
+#[test]
+fn the_first_of_two_circuits_has_c_below_zero() {
+    let windows = "0:2,1=6 1:2,1=5 3:1,1=8";
+    assert_eq!(none_by(windows, CROSSED, []), Ok(()));
+    let with_high = none_by(windows, CROSSED, [[3, 1, 1, 1]]);
+    assert_eq!(with_high, Err(Fault::WrongCircuit));
+}
+
+#[test]
+fn the_second_of_two_circuits_has_c_above_zero() {
+    let windows = "0:2,1=6 1:2,1=5 2:1,1=9";
+    assert_eq!(none_by(windows, CROSSED, []), Ok(()));
+    let with_low = none_by(windows, [[2, 1, 1, 1]], CROSSED);
+    assert_eq!(with_low, Err(Fault::WrongCircuit));
 }
 
 const SAMPLE: &str = "ends 5/1 open\nlow 2\n0 1 2 1\n2 1 1 2\nplan 1 1\n0 3\n";

@@ -3,7 +3,7 @@ use mathlib.Core.Path.{_≡_, refl, sym, subst}
 use mathlib.Core.List.{List, [], _∷_}
 use Prim.Native.Nat.{ℕ}
 use native.Mathlib.Omega.{arith}
-use Rattle.sheet.specs.Answers.{Answer}
+use Rattle.tables.specs.Answers.{Answer}
 use Rattle.reader.specs.Answers.{answerRead}
 use Rattle.reader.specs.declared.Read.{Read}
 use Rattle.reader.specs.declared.Read.the-variants as read
@@ -13,7 +13,9 @@ use Rattle.ends.specs.declared.High.{High}
 use Rattle.ends.specs.declared.High.the-variants as high
 use Rattle.ends.specs.declared.Ended.{Ended}
 use Rattle.ends.specs.declared.Ended.the-variants as ended
-use Rattle.answers.specs.Answers.{Given, answerAsked, answerFound, answerEnded}
+use Rattle.ask.specs.Answers.{answerAsked}
+use Rattle.ends.specs.Answers.{answerFound, answerEnded}
+use Rattle.answers.specs.Answers.{Given}
 use Rattle.answers.specs.declared.Answered.{Answered}
 
 abbrev three : ℕ → ℕ → ℕ → Answered
@@ -46,21 +48,27 @@ hundred a = record { number = 100; count = 1; values = a ∷ 0 ∷ 0 ∷ 0 ∷ 0
 pub refuted-given : (r : Asked) (n : ℕ) → r ≡ asked.Refuted n → Given (hundred n) (answerAsked r)
 refuted-given r n e = subst (λ (s : Asked). Given (hundred n) (answerAsked s)) (sym e) (record { numbered = refl; valued = refl; few = omega arith; room = refl })
 
-abbrev seven : ℕ → ℕ → ℕ → ℕ → ℕ → ℕ → ℕ → Answered
-seven t b k c d x y = record { number = 0; count = 7; values = t ∷ b ∷ k ∷ c ∷ d ∷ x ∷ y ∷ 0 ∷ [] }
+abbrev four : ℕ → ℕ → ℕ → ℕ → Answered
+four t b x y = record { number = 0; count = 4; values = t ∷ b ∷ x ∷ y ∷ 0 ∷ 0 ∷ 0 ∷ 0 ∷ [] }
 
-same-last : (t b k c d x y x′ y′ : ℕ) → x ≡ x′ → y ≡ y′ → _≡_ {A = List ℕ} (t ∷ b ∷ k ∷ c ∷ d ∷ x ∷ y ∷ []) (t ∷ b ∷ k ∷ c ∷ d ∷ x′ ∷ y′ ∷ [])
-same-last t b k c d x y x′ y′ p q = cc
+abbrev six : ℕ → ℕ → ℕ → ℕ → ℕ → ℕ → Answered
+six t b c d x y = record { number = 0; count = 6; values = t ∷ b ∷ c ∷ d ∷ x ∷ y ∷ 0 ∷ 0 ∷ [] }
 
-pub open-given : (t b : ℕ) (h : High) (f g x y : ℕ) → h ≡ high.Open → x ≡ f → y ≡ g → Given (seven t b 0 0 0 x y) (answerFound t b h f g)
+same-four : (t b x y x′ y′ : ℕ) → x ≡ x′ → y ≡ y′ → _≡_ {A = List ℕ} (t ∷ b ∷ x ∷ y ∷ []) (t ∷ b ∷ x′ ∷ y′ ∷ [])
+same-four t b x y x′ y′ p q = cc
+
+same-six : (t b c d x y x′ y′ : ℕ) → x ≡ x′ → y ≡ y′ → _≡_ {A = List ℕ} (t ∷ b ∷ c ∷ d ∷ x ∷ y ∷ []) (t ∷ b ∷ c ∷ d ∷ x′ ∷ y′ ∷ [])
+same-six t b c d x y x′ y′ p q = cc
+
+pub open-given : (t b : ℕ) (h : High) (f g x y : ℕ) → h ≡ high.Open → x ≡ f → y ≡ g → Given (four t b x y) (answerFound t b h f g)
 open-given t b h f g x y e p q =
-    subst (λ (z : High). Given (seven t b 0 0 0 x y) (answerFound t b z f g)) (sym e)
-    (record { numbered = refl; valued = same-last t b 0 0 0 x y f g p q; few = omega arith; room = refl })
+    subst (λ (z : High). Given (four t b x y) (answerFound t b z f g)) (sym e)
+    (record { numbered = refl; valued = same-four t b x y f g p q; few = omega arith; room = refl })
 
-pub high-given : (t b : ℕ) (h : High) (f g c d x y : ℕ) → h ≡ high.UpTo c d → x ≡ f → y ≡ g → Given (seven t b 1 c d x y) (answerFound t b h f g)
+pub high-given : (t b : ℕ) (h : High) (f g c d x y : ℕ) → h ≡ high.UpTo c d → x ≡ f → y ≡ g → Given (six t b c d x y) (answerFound t b h f g)
 high-given t b h f g c d x y e p q =
-    subst (λ (z : High). Given (seven t b 1 c d x y) (answerFound t b z f g)) (sym e)
-    (record { numbered = refl; valued = same-last t b 1 c d x y f g p q; few = omega arith; room = refl })
+    subst (λ (z : High). Given (six t b c d x y) (answerFound t b z f g)) (sym e)
+    (record { numbered = refl; valued = same-six t b c d x y f g p q; few = omega arith; room = refl })
 
 pub found-given : (r : Ended) (t b : ℕ) (h : High) (f g : ℕ) (a : Answered) → r ≡ ended.Found t b h f g → Given a (answerFound t b h f g) → Given a (answerEnded r)
 found-given r t b h f g a e x = subst (λ (s : Ended). Given a (answerEnded s)) (sym e) x

@@ -11,7 +11,9 @@ ghost use lib.ListN.{set, length};
 ghost use lib.Seq.{sets};
 ghost use Rattle.reader.specs.Answers.{answerRead};
 ghost use Rattle.writer.specs.Answers.{answerWritten};
-ghost use Rattle.answers.specs.Answers.{Given, given, answerAsked, answerFound, answerEnded};
+ghost use Rattle.ask.specs.Answers.{answerAsked};
+ghost use Rattle.ends.specs.Answers.{answerFound, answerEnded};
+ghost use Rattle.answers.specs.Answers.{Given, valuesOf};
 
 // An answer in numbers: its number, and how many values of the list belong to it.
 pub struct Answered {
@@ -29,18 +31,21 @@ fn put(values: &mut [u64], at: usize, value: u64)
     }
 }
 
-pub fn wide(value: usize) -> u64
+// A count as a value.
+pub fn as_value(value: usize) -> u64
     ensures { λ r. ⌜ r ≡ value ⌝ }
 {
     value as u64
 }
 
+// The number of a refusal, as an answer's.
 pub fn answer(number: u8) -> u32
     ensures { λ r. ⌜ r ≡ number ⌝ }
 {
     number as u32
 }
 
+// The reader's answer.
 pub fn of_read(read: Read) -> Answered
     ensures { λ r. ⌜ Given r (answerRead read) ⌝ }
 {
@@ -48,7 +53,7 @@ pub fn of_read(read: Read) -> Answered
         Read::Done { n, m, positions } => Answered {
             number: 0,
             count: 3,
-            values: [wide(n), wide(m), wide(positions), 0, 0, 0, 0, 0],
+            values: [as_value(n), as_value(m), as_value(positions), 0, 0, 0, 0, 0],
         },
         Read::Refused { number } => Answered {
             number: answer(number),
@@ -58,6 +63,7 @@ pub fn of_read(read: Read) -> Answered
     }
 }
 
+// The writer's.
 pub fn of_written(written: Written) -> Answered
     ensures { λ r. ⌜ Given r (answerWritten written) ⌝ }
 {
@@ -65,7 +71,7 @@ pub fn of_written(written: Written) -> Answered
         Written::Done { length } => Answered {
             number: 0,
             count: 1,
-            values: [wide(length), 0, 0, 0, 0, 0, 0, 0],
+            values: [as_value(length), 0, 0, 0, 0, 0, 0, 0],
         },
         Written::Refused { number } => Answered {
             number: answer(number),
@@ -75,6 +81,7 @@ pub fn of_written(written: Written) -> Answered
     }
 }
 
+// Ask's.
 pub fn of_asked(asked: Asked) -> Answered
     ensures { λ r. ⌜ Given r (answerAsked asked) ⌝ }
 {
@@ -97,23 +104,25 @@ pub fn of_asked(asked: Asked) -> Answered
     }
 }
 
+// That of Ends where there are ends.
 fn of_found(top: u64, bottom: u64, high: High, first: usize, second: usize) -> Answered
     ensures { λ r. ⌜ Given r (answerFound top bottom high first second) ⌝ }
 {
     match high {
         High::Open => Answered {
             number: 0,
-            count: 7,
-            values: [top, bottom, 0, 0, 0, wide(first), wide(second), 0],
+            count: 4,
+            values: [top, bottom, as_value(first), as_value(second), 0, 0, 0, 0],
         },
         High::UpTo { top: c, bottom: d } => Answered {
             number: 0,
-            count: 7,
-            values: [top, bottom, 1, c, d, wide(first), wide(second), 0],
+            count: 6,
+            values: [top, bottom, c, d, as_value(first), as_value(second), 0, 0],
         },
     }
 }
 
+// That of Ends.
 pub fn of_ended(ended: Ended) -> Answered
     ensures { λ r. ⌜ Given r (answerEnded ended) ⌝ }
 {
@@ -128,7 +137,7 @@ pub fn of_ended(ended: Ended) -> Answered
         Ended::None { first, second } => Answered {
             number: 101,
             count: 2,
-            values: [wide(first), wide(second), 0, 0, 0, 0, 0, 0],
+            values: [as_value(first), as_value(second), 0, 0, 0, 0, 0, 0],
         },
         Ended::Refused { number } => Answered {
             number: answer(number),
@@ -141,7 +150,7 @@ pub fn of_ended(ended: Ended) -> Answered
 // Hands an answer over: the values into the list, as far as it reaches, and the number.
 pub fn give(values: &mut [u64], a: Answered) -> u32
     requires { ⌜ (a .count ≤ 8) × (length (a .values) ≡ 8) ⌝ }
-    ensures { λ r. ⌜ (r ≡ a .number) × (now (values .exit) ≡ sets (now (values .entry)) 0 (given a)) ⌝ }
+    ensures { λ r. ⌜ (r ≡ a .number) × (now (values .exit) ≡ sets (now (values .entry)) 0 (valuesOf a)) ⌝ }
 {
     let list = a.values;
     let count = a.count;

@@ -6,16 +6,16 @@ use native.Mathlib.Omega.{arith}
 use native.Mathlib.Decide.{decLt}
 use Rattle.theory.specs.Arcs.{Still, Rounds}
 use Rattle.tables.specs.Sheets.{Sheet}
-use Rattle.tables.proofs.Laws.{Admitted}
+use Rattle.tables.specs.Admitted.{Admitted}
 use Rattle.windows.specs.Arcs.{nodes, arcs}
-use Rattle.layout.specs.declared.Window.{Window as Item}
-use Rattle.layout.specs.Records.{Modes}
+use Rattle.layout.specs.declared.Record.{Record}
+use Rattle.layout.proofs.Laying.{Modes}
 use Rattle.turns.specs.Rounds.{walked, Filled, Ran}
 use Rattle.turns.proofs.Sheets.{table-is}
 use Rattle.calls.specs.Ask.{Accepts}
 use Rattle.calls.proofs.Ask.Earliest.{table-earliest}
 
-module _ (s : Sheet) (ok : Admitted s) (p q : ℕ) (l : List Item) (start : List ℕ) (laid : Modes (s .tables) (s .n) l start (s .m))
+module _ (s : Sheet) (ok : Admitted s) (p q : ℕ) (l : List Record) (start : List ℕ) (laid : Modes (s .tables) (s .n) l start (s .m))
     (r node : ℕ) (times marks : List ℕ) (ran : Ran (walked l start (s .schedule) (s .n) (s .positions) p q (s .positions)) (nodes s) r node times marks) where
   still : r < nodes s → Still (arcs s) p q (nodes s) r
   still few v h = omega (arith, ran .still few v h, table-is s ok p q l start laid (suc r) v, table-is s ok p q l start laid r v)

@@ -2,13 +2,11 @@
 // This crate knows the earliest plan with its count of rounds, and when a circuit is given instead; it knows no file.
 // It renders document 01's "Rounds", "Circuits" and the line on Ask in "Numbers a call can answer".
 ghost use mathlib.Core.Path.{_≡_};
-ghost use mathlib.Core.Bool.{_&&_};
 ghost use Prim.Native.Nat.{_*_, _≤_};
-ghost use lib.Dec.{leb};
 ghost use lib.ListN.{length};
 ghost use Rattle.tables.specs.Sheets.{sheet};
 ghost use Rattle.calls.specs.Ask.{timed, askRefusal, Outcome};
-ghost use Rattle.ask.specs.Answers.{answer, Ends, Finishes, Settles};
+ghost use Rattle.ask.specs.Answers.{answerAsked, LeadsBack, Finishes, Settles};
 
 // The answer: the rounds of an acceptance, the arc count of a refutation, or the number of a refusal.
 pub enum Asked {
@@ -23,22 +21,22 @@ const MOST_P: u64 = 1000000000;
 
 // Writes what the rounds came to: their table as the plan, or the circuit that their marks lead to.
 fn finish(
-    list: [layout::Window; 4608],
+    list: [layout::Record; tables::PLACES],
     n: usize,
     positions: usize,
     marks: &[u32],
-    ended: rounds::Ended,
+    last: rounds::Last,
     plan: &mut [u64],
     circuit: &mut [u8],
 ) -> Asked
-    requires { ⌜ Ends list (now marks) n positions (ended .rounds) (ended .node) × (positions * n ≤ 192) × (positions * n ≤ length (now plan)) × (positions * n * 4 ≤ length (now circuit)) ⌝ }
-    ensures { λ r. ⌜ Finishes list (now (marks .entry)) n positions (ended .rounds) (ended .node) (ended .times) (now (plan .entry)) (now (circuit .entry)) (answer r) (now (plan .exit)) (now (circuit .exit)) ⌝ }
+    requires { ⌜ LeadsBack list (now marks) n positions (last .rounds) (last .node) × (positions * n ≤ 192) × (positions * n ≤ length (now plan)) × (positions * n * 4 ≤ length (now circuit)) ⌝ }
+    ensures { λ r. ⌜ Finishes list (now (marks .entry)) n positions (last .rounds) (last .node) (last .times) (now (plan .entry)) (now (circuit .entry)) r (now (plan .exit)) (now (circuit .exit)) ⌝ }
 {
     let nodes = positions * n;
-    let rounds = ended.rounds;
-    let node = ended.node;
+    let rounds = last.rounds;
+    let node = last.node;
     if rounds < nodes {
-        let times = ended.times;
+        let times = last.times;
         turns::write_times(&times, nodes, plan);
         return Asked::Accepted {
             rounds: rounds as u64,
@@ -63,7 +61,7 @@ fn solve(
 ) -> Asked
     requires { ⌜ askRefusal (sheet n m positions (now tables) (now schedule)) p q (now plan) (now circuit) ≡ 0 ⌝ }
     requires { ⌜ length (now marks) ≡ 36864 ⌝ }
-    ensures { λ r. ⌜ Settles (sheet n m positions (now (tables .entry)) (now (schedule .entry))) p q (now (plan .entry)) (now (circuit .entry)) (answer r) (now (plan .exit)) (now (circuit .exit)) ⌝ }
+    ensures { λ r. ⌜ Settles (sheet n m positions (now (tables .entry)) (now (schedule .entry))) p q (now (plan .entry)) (now (circuit .entry)) r (now (plan .exit)) (now (circuit .exit)) ⌝ }
 {
     let list = layout::lay_out(tables, n, m);
     let start = layout::starts(tables, n, m);
@@ -74,12 +72,11 @@ fn solve(
         q: q,
         start: start,
     };
-    let ended = rounds::run(list, job, schedule, marks);
-    finish(list, n, positions, marks, ended, plan, circuit)
+    let last = rounds::run(list, job, schedule, marks);
+    finish(list, n, positions, marks, last, plan, circuit)
 }
 
-// Makes the room of the work's own for a row of marks for each round. With the list, the tables of the rounds and the way back a call has
-// under 262,000 bytes of stack, and may have 524,288.
+// Makes the room of the work's own for a row of marks for each round, which is most of the stack that a call takes.
 fn decide(
     n: usize,
     m: usize,
@@ -92,9 +89,9 @@ fn decide(
     circuit: &mut [u8],
 ) -> Asked
     requires { ⌜ askRefusal (sheet n m positions (now tables) (now schedule)) p q (now plan) (now circuit) ≡ 0 ⌝ }
-    ensures { λ r. ⌜ Settles (sheet n m positions (now (tables .entry)) (now (schedule .entry))) p q (now (plan .entry)) (now (circuit .entry)) (answer r) (now (plan .exit)) (now (circuit .exit)) ⌝ }
+    ensures { λ r. ⌜ Settles (sheet n m positions (now (tables .entry)) (now (schedule .entry))) p q (now (plan .entry)) (now (circuit .entry)) r (now (plan .exit)) (now (circuit .exit)) ⌝ }
 {
-    let mut marks = [0u32; 36864];
+    let mut marks = [0u32; turns::MARKS];
     solve(
         n,
         m,
@@ -122,14 +119,6 @@ fn is_timed(p: u64, q: u64) -> bool
     p <= MOST_P
 }
 
-// Whether the buffers have N places for a plan and 4N for a circuit.
-fn is_roomy(nodes: usize, plan: usize, circuit: usize) -> bool
-    requires { ⌜ nodes ≤ 192 ⌝ }
-    ensures { λ r. ⌜ r ≡ (leb nodes plan && leb (4 * nodes) circuit) ⌝ }
-{
-    nodes <= plan && 4 * nodes <= circuit
-}
-
 // Does the cycle time p/q work? Accepted with the rounds, and the earliest plan in the first N places of `plan`; refuted with the arc
 // count, and a circuit with total above zero in the first places of `circuit`, four numbers an arc; or refused, by 4, 5, 6, 10 or 9.
 pub fn ask(
@@ -143,7 +132,7 @@ pub fn ask(
     plan: &mut [u64],
     circuit: &mut [u8],
 ) -> Asked
-    ensures { λ r. ⌜ Outcome (sheet n m positions (now (tables .entry)) (now (schedule .entry))) p q (now (plan .entry)) (now (circuit .entry)) (answer r) (now (plan .exit)) (now (circuit .exit)) ⌝ }
+    ensures { λ r. ⌜ Outcome (sheet n m positions (now (tables .entry)) (now (schedule .entry))) p q (now (plan .entry)) (now (circuit .entry)) (answerAsked r) (now (plan .exit)) (now (circuit .exit)) ⌝ }
 {
     let refusal = tables::judge(n, m, positions, tables, schedule);
     if refusal != 0 {
@@ -152,7 +141,8 @@ pub fn ask(
     if !is_timed(p, q) {
         return Asked::Refused { number: 10 };
     }
-    if !is_roomy(positions * n, plan.len(), circuit.len()) {
+    let nodes = positions * n;
+    if !tables::is_roomy(nodes, plan.len(), 4 * nodes, circuit.len()) {
         return Asked::Refused { number: 9 };
     }
     decide(n, m, positions, tables, schedule, p, q, plan, circuit)

@@ -1,21 +1,23 @@
 -- Of a sheet's tables and schedule the outcomes of Ask and of Ends read nothing but limits: of the windows of the mode at a position, between events.
 -- Where two sheets have there the same limits, an outcome for the one is an outcome for the other.
 use mathlib.Core.Path.{_≡_, refl, sym, ap, ap₂, _∙_, subst}
-use mathlib.Core.Logic.{_⊎_, inl, inr}
-use mathlib.Core.List.{List, [], _∷_, _++_, map, List·Memᴰ, List·Memᴰ·head, List·Memᴰ·tail}
+use mathlib.Core.Logic.{inl, inr}
+use mathlib.Core.List.{List, [], _∷_, map}
 use Prim.Native.Nat.{ℕ}
 use lib.IntN.{ℤ}
 use Rattle.theory.specs.Arcs.{Arc, Rounds}
 use Rattle.theory.specs.Circuits.{Circuit, departures, FirstSmallest, Above}
 use Rattle.theory.specs.Ends.{High, Range, LowShown, HighShown, NoneShown}
 use Rattle.tables.specs.Sheets.{Sheet, sheet, absent, refusal}
+use Rattle.tables.specs.Answers.{Answer}
 use Rattle.tables.proofs.Refusing.{otherwise-none}
 use Rattle.windows.specs.Windows.{Kind, Window, Event, entry, Has, mode}
 use Rattle.windows.specs.Inequalities.{Times, Solves, Runs}
 use Rattle.windows.specs.Arcs as laid
-use Rattle.windows.specs.Arcs.{oneTo, each, kinds, windowAt, windowsTo, windowsOf, windows, arcOf, arcsAt, arcs, nodes}
+use Rattle.windows.specs.Arcs.{oneTo, kinds, windowAt, windowsTo, windowsOf, windows, arcOf, arcsAt, arcs, nodes}
 use Rattle.windows.specs.Circuits.{Step, stepArc, Valid, AllValid, CircuitOf}
-use Rattle.windows.proofs.Listed.{one-to-of}
+use Rattle.windows.proofs.Listed.{each-same, one-to-of}
+use Rattle.calls.specs.Circuits.{CircuitOrNone}
 use Rattle.calls.specs.Ask as ask
 use Rattle.calls.specs.Ends as ends
 
@@ -27,11 +29,6 @@ lent s tables schedule = sheet (s .n) (s .m) (s .positions) tables schedule
 abbrev pub Alike : Sheet → List ℤ → List ℕ → Type 0
 Alike s tables schedule =
     (h : ℕ) (k : Kind) (i j : ℕ) → Event s i → Event s j → entry s (mode s h) k i j ≡ entry (lent s tables schedule) (mode (lent s tables schedule) h) k i j
-
--- lists joined of equal parts
-each-same : {A B : Type 0} (l : List A) (f g : A → List B) → ((a : A) → List·Memᴰ a l → f a ≡ g a) → each l f ≡ each l g
-each-same [] f g e = refl
-each-same (a ∷ l) f g e = ap₂ (λ x y. x ++ y) (e a (List·Memᴰ·head refl)) (each-same l f g (λ b m. e b (List·Memᴰ·tail m)))
 
 module _ (s : Sheet) (tables : List ℤ) (schedule : List ℕ) (alike : Alike s tables schedule) where
   has-same : (h : ℕ) (a : Window) → Has s (mode s h) a → Has (lent s tables schedule) (mode (lent s tables schedule) h) a
@@ -62,7 +59,7 @@ module _ (s : Sheet) (tables : List ℤ) (schedule : List ℕ) (alike : Alike s 
       each-same kinds (windowsOf s (mode s h)) (windowsOf there (mode there h)) (λ k _.
       each-same (oneTo (s .n)) (windowsTo s (mode s h) k) (windowsTo there (mode there h) k) (λ i to.
       each-same (oneTo (s .n)) (windowAt s (mode s h) k i) (windowAt there (mode there h) k i) (λ j from.
-      ap (λ (w : ℤ). laid.unless (absent w) (record { kind = k; to = i; from = j; w = w })) (alike h k i j (one-to-of (s .n) to) (one-to-of (s .n) from)))))
+      ap (λ (w : ℤ). laid.unlessAbsent (absent w) (record { kind = k; to = i; from = j; w = w })) (alike h k i j (one-to-of (s .n) to) (one-to-of (s .n) from)))))
 
   arcs-same : arcs s ≡ arcs there
   unfolding arcs
@@ -109,16 +106,10 @@ module _ (s : Sheet) (tables : List ℤ) (schedule : List ℕ) (alike : Alike s 
         circuit-same = is .circuit-same;
       }
 
-  shows-same : (p q : ℕ) (plan₀ circuit₀ : List ℕ) (count : ℕ) (plan circuit : List ℕ) → ask.Shows s p q plan₀ circuit₀ count plan circuit → ask.Shows there p q plan₀ circuit₀ count plan circuit
-  shows-same p q plan₀ circuit₀ count plan circuit is =
-      let c = circuit-same (is .steps) (is .refutes .circuit) in
-      record {
-        steps = is .steps;
-        refutes = record { circuit = c .0; above = subst (λ (l : List Arc). Above p q l) (c .1) (is .refutes .above) };
-        counted = is .counted;
-        circuit-is = is .circuit-is;
-        plan-same = is .plan-same;
-      }
+  shows-same : (p q : ℕ) (plan₀ circuit₀ : List ℕ) (steps : List Step) (plan circuit : List ℕ) → ask.Shows s p q plan₀ circuit₀ steps plan circuit → ask.Shows there p q plan₀ circuit₀ steps plan circuit
+  shows-same p q plan₀ circuit₀ steps plan circuit is =
+      let c = circuit-same steps (is .refutes .circuit) in
+      record { refutes = record { circuit = c .0; above = subst (λ (l : List Arc). Above p q l) (c .1) (is .refutes .above) }; circuit-is = is .circuit-is; plan-same = is .plan-same }
 
   runs-there : (p q : ℕ) → Runs s p q → Runs there p q
   runs-there p q is = (is .0, solves-there p q (is .0) (is .1))
@@ -137,44 +128,35 @@ module _ (s : Sheet) (tables : List ℤ) (schedule : List ℕ) (alike : Alike s 
         only = λ p q above runs. r .only p q above (runs-from p q runs);
       }
 
-  -- the buffer holds the same arcs
-  holds-same : (before : List ℕ) (count : ℕ) (after : List ℕ) (is : ends.Holds s before count after) → (held : ends.Holds there before count after) × (ends.arcsIn s is ≡ ends.arcsIn there held)
-  holds-same before count after is = go (is .circuit)
-    where
-      go : (is .steps ≡ []) ⊎ CircuitOf s (is .steps) → (held : ends.Holds there before count after) × (ends.arcsIn s is ≡ ends.arcsIn there held)
-      go (inl none) = (
-        record { steps = is .steps; circuit = inl none; counted = is .counted; written = is .written },
-        ap (λ (l : List Step). map (stepArc s) l) none ∙ ap (λ (l : List Step). map (stepArc there) l) (sym none),
-      )
-      go (inr circuit) =
-          let c = circuit-same (is .steps) circuit in
-          (record { steps = is .steps; circuit = inr (c .0); counted = is .counted; written = is .written }, c .1)
+  -- a circuit or none: the same arcs
+  or-none-same : (cs : List Step) → CircuitOrNone s cs → CircuitOrNone there cs × (map (stepArc s) cs ≡ map (stepArc there) cs)
+  or-none-same cs (inl none) = (inl none, ap (λ (l : List Step). map (stepArc s) l) none ∙ ap (λ (l : List Step). map (stepArc there) l) (sym none))
+  or-none-same cs (inr circuit) = let c = circuit-same cs circuit in (inr (c .0), c .1)
 
-  finds-same : (first₀ second₀ : List ℕ) (top bottom : ℕ) (high : High) (count₁ count₂ : ℕ) (first last : List ℕ)
-      → ends.Finds s first₀ second₀ top bottom high count₁ count₂ first last → ends.Finds there first₀ second₀ top bottom high count₁ count₂ first last
-  finds-same first₀ second₀ top bottom high count₁ count₂ first last is =
-      let a = holds-same first₀ count₁ first (is .first-holds) in
-      let b = holds-same second₀ count₂ last (is .second-holds) in
+  finds-same : (top bottom : ℕ) (high : High) (cs ds : List Step) → ends.Finds s top bottom high cs ds → ends.Finds there top bottom high cs ds
+  finds-same top bottom high cs ds is =
+      let a = or-none-same cs (is .first-circuit) in
+      let b = or-none-same ds (is .second-circuit) in
       record {
         range = range-same top bottom high (is .range);
         bottom-small = is .bottom-small;
         high-small = is .high-small;
-        first-holds = a .0;
-        second-holds = b .0;
-        low-shown = subst (λ (l : List Arc). LowShown l bottom top (ends.arcsIn there (a .0))) arcs-same (subst (λ (c : List Arc). LowShown (arcs s) bottom top c) (a .1) (is .low-shown));
-        high-shown = subst (λ (l : List Arc). HighShown l high (ends.arcsIn there (b .0))) arcs-same (subst (λ (c : List Arc). HighShown (arcs s) high c) (b .1) (is .high-shown));
+        first-circuit = a .0;
+        second-circuit = b .0;
+        low-shown = subst (λ (l : List Arc). LowShown l bottom top (map (stepArc there) cs)) arcs-same (subst (λ (c : List Arc). LowShown (arcs s) bottom top c) (a .1) (is .low-shown));
+        high-shown = subst (λ (l : List Arc). HighShown l high (map (stepArc there) ds)) arcs-same (subst (λ (c : List Arc). HighShown (arcs s) high c) (b .1) (is .high-shown));
       }
 
-  lacks-same : (first₀ second₀ : List ℕ) (count₁ count₂ : ℕ) (first last : List ℕ) → ends.Lacks s first₀ second₀ count₁ count₂ first last → ends.Lacks there first₀ second₀ count₁ count₂ first last
-  lacks-same first₀ second₀ count₁ count₂ first last is =
-      let a = holds-same first₀ count₁ first (is .first-holds) in
-      let b = holds-same second₀ count₂ last (is .second-holds) in
+  lacks-same : (cs ds : List Step) → ends.Lacks s cs ds → ends.Lacks there cs ds
+  lacks-same cs ds is =
+      let a = or-none-same cs (is .first-circuit) in
+      let b = or-none-same ds (is .second-circuit) in
       record {
         never = λ p q above runs. is .never p q above (runs-from p q runs);
-        first-holds = a .0;
-        second-holds = b .0;
-        none-shown = subst (λ (l : List Arc). NoneShown l (ends.arcsIn there (a .0)) (ends.arcsIn there (b .0))) arcs-same
-            (subst (λ (d : List Arc). NoneShown (arcs s) (ends.arcsIn there (a .0)) d) (b .1) (subst (λ (c : List Arc). NoneShown (arcs s) c (ends.arcsIn s (is .second-holds))) (a .1) (is .none-shown)));
+        first-circuit = a .0;
+        second-circuit = b .0;
+        none-shown = subst (λ (l : List Arc). NoneShown l (map (stepArc there) cs) (map (stepArc there) ds)) arcs-same
+            (subst (λ (d : List Arc). NoneShown (arcs s) (map (stepArc there) cs) d) (b .1) (subst (λ (c : List Arc). NoneShown (arcs s) c (map (stepArc s) ds)) (a .1) (is .none-shown)));
       }
 
 -- only a call that is not refused reads limits
@@ -184,17 +166,21 @@ module _ (s : Sheet) (tables : List ℤ) (schedule : List ℕ) (same : refusal s
     ask-refused = rw (← same)
 
     -- THEOREM: an outcome of Ask for the sheet is one for the other
-    pub ask-alike : (a : ask.Answer) (plan circuit : List ℕ) → ask.Outcome s p q plan₀ circuit₀ a plan circuit → ask.Outcome (lent s tables schedule) p q plan₀ circuit₀ a plan circuit
-    ask-alike (ask.accepted r) plan circuit x = (ask-refused ∙ x .0, accepts-same s tables schedule (alike (otherwise-none (refusal s) _ (x .0) .0)) p q plan₀ circuit₀ r plan circuit (x .1))
-    ask-alike (ask.refuted r) plan circuit x = (ask-refused ∙ x .0, shows-same s tables schedule (alike (otherwise-none (refusal s) _ (x .0) .0)) p q plan₀ circuit₀ r plan circuit (x .1))
-    ask-alike (ask.refused k) plan circuit x = (ask-refused ∙ x .0, x .1, x .2, x .3)
+    pub ask-alike : (a : Answer) (plan circuit : List ℕ) → ask.Outcome s p q plan₀ circuit₀ a plan circuit → ask.Outcome (lent s tables schedule) p q plan₀ circuit₀ a plan circuit
+    ask-alike a plan circuit (ask.accepted r e none is) =
+        ask.accepted r e (ask-refused ∙ none) (accepts-same s tables schedule (alike (otherwise-none (refusal s) _ none .0)) p q plan₀ circuit₀ r plan circuit is)
+    ask-alike a plan circuit (ask.refuted cs e none is) =
+        ask.refuted cs e (ask-refused ∙ none) (shows-same s tables schedule (alike (otherwise-none (refusal s) _ none .0)) p q plan₀ circuit₀ cs plan circuit is)
+    ask-alike a plan circuit (ask.refused k e is some same same′) = ask.refused k e (ask-refused ∙ is) some same same′
 
   module _ (first₀ second₀ : List ℕ) where
     ends-refused : ends.endsRefusal (lent s tables schedule) first₀ second₀ ≡ ends.endsRefusal s first₀ second₀
     ends-refused = rw (← same)
 
     -- THEOREM: an outcome of Ends for the sheet is one for the other
-    pub ends-alike : (a : ends.Answer) (first last : List ℕ) → ends.Outcome s first₀ second₀ a first last → ends.Outcome (lent s tables schedule) first₀ second₀ a first last
-    ends-alike (ends.found t b h c d) first last x = (ends-refused ∙ x .0, finds-same s tables schedule (alike (otherwise-none (refusal s) _ (x .0) .0)) first₀ second₀ t b h c d first last (x .1))
-    ends-alike (ends.none c d) first last x = (ends-refused ∙ x .0, lacks-same s tables schedule (alike (otherwise-none (refusal s) _ (x .0) .0)) first₀ second₀ c d first last (x .1))
-    ends-alike (ends.refused k) first last x = (ends-refused ∙ x .0, x .1, x .2, x .3)
+    pub ends-alike : (a : Answer) (first last : List ℕ) → ends.Outcome s first₀ second₀ a first last → ends.Outcome (lent s tables schedule) first₀ second₀ a first last
+    ends-alike a first last (ends.found t b h cs ds e none is same same′) =
+        ends.found t b h cs ds e (ends-refused ∙ none) (finds-same s tables schedule (alike (otherwise-none (refusal s) _ none .0)) t b h cs ds is) same same′
+    ends-alike a first last (ends.none cs ds e none is same same′) =
+        ends.none cs ds e (ends-refused ∙ none) (lacks-same s tables schedule (alike (otherwise-none (refusal s) _ none .0)) cs ds is) same same′
+    ends-alike a first last (ends.refused k e is some same same′) = ends.refused k e (ends-refused ∙ is) some same same′

@@ -1,4 +1,5 @@
--- Ends: its refusals, that there are ends or none, and that two outcomes are equal.
+-- Ends: its refusals, that there are ends or none, what each answer says, and that two outcomes are equal.
 pub mod Refusals
 pub mod Found
+pub mod Cases
 pub mod Unique

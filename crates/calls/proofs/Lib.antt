@@ -1,3 +1,4 @@
+pub mod Circuits
 pub mod Ask
 pub mod Ends
 pub mod Host

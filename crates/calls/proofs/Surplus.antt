@@ -14,6 +14,7 @@ use lib.ListN.{length, take, length-take}
 use lib.Seq.{getD-take, take-take, take-append-le}
 use lib.IntN.{ℤ}
 use Rattle.tables.specs.Sheets.{Sheet, sheet, exact, noWindow, place, places, sized, scheduled, admitted, refusal}
+use Rattle.tables.specs.Answers.{Answer}
 use Rattle.tables.proofs.Laws.{accepted}
 use Rattle.windows.specs.Windows.{number, entry, mode}
 use Rattle.windows.specs.Arcs.{nodes}
@@ -70,38 +71,40 @@ surplus-more s long wide more others =
     ap₂ (λ (t : List ℤ) (v : List ℕ). sheet (s .n) (s .m) (s .positions) t v) (take-append-le (places (s .n) (s .m)) (s .tables) more long) (take-append-le (s .positions) (s .schedule) others wide)
 
 module _ (s s′ : Sheet) (same : SameButSurplus s s′) where
-  -- THEOREM: they are refused alike, by themselves, by Ask and by Ends
+  -- THEOREM: they are refused alike
   pub surplus-refusal : refusal s ≡ refusal s′
   surplus-refusal = sym (exact-refusal s) ∙ ap refusal same ∙ exact-refusal s′
 
+  -- THEOREM: by Ask too
   pub surplus-ask-refusal : (p q : ℕ) (plan circuit : List ℕ) → ask.askRefusal s p q plan circuit ≡ ask.askRefusal s′ p q plan circuit
   surplus-ask-refusal p q plan circuit = rw (surplus-refusal, ap nodes same)
 
+  -- THEOREM: and by Ends
   pub surplus-ends-refusal : (first second : List ℕ) → ends.endsRefusal s first second ≡ ends.endsRefusal s′ first second
   surplus-ends-refusal first second = rw (surplus-refusal, ap nodes same)
 
   -- THEOREM: every outcome of Ask for the one is an outcome for the other, with the same answer and the same buffers
-  pub surplus-ask : (p q : ℕ) (plan₀ circuit₀ : List ℕ) (a : ask.Answer) (plan circuit : List ℕ) → ask.Outcome s p q plan₀ circuit₀ a plan circuit → ask.Outcome s′ p q plan₀ circuit₀ a plan circuit
+  pub surplus-ask : (p q : ℕ) (plan₀ circuit₀ : List ℕ) (a : Answer) (plan circuit : List ℕ) → ask.Outcome s p q plan₀ circuit₀ a plan circuit → ask.Outcome s′ p q plan₀ circuit₀ a plan circuit
   surplus-ask p q plan₀ circuit₀ a plan circuit x =
       ask-alike (exact s′) (s′ .tables) (s′ .schedule) (exact-refusal s′) (exact-back s′) p q plan₀ circuit₀ a plan circuit
       (subst (λ (t : Sheet). ask.Outcome t p q plan₀ circuit₀ a plan circuit) same
       (ask-alike s (exact s .tables) (exact s .schedule) (sym (exact-refusal s)) (exact-alike s) p q plan₀ circuit₀ a plan circuit x))
 
   -- THEOREM: so what Ask answers for the one and for the other is equal, but for which circuit is given
-  pub surplus-asked : (p q : ℕ) (plan₀ circuit₀ : List ℕ) (a b : ask.Answer) (plan circuit plan′ circuit′ : List ℕ) → ask.Outcome s p q plan₀ circuit₀ a plan circuit → ask.Outcome s′ p q plan₀ circuit₀ b plan′ circuit′
-      → (ask.number a ≡ ask.number b) × (plan ≡ plan′) × (ask.number a ≢ 100 → (a ≡ b) × (circuit ≡ circuit′))
+  pub surplus-asked : (p q : ℕ) (plan₀ circuit₀ : List ℕ) (a b : Answer) (plan circuit plan′ circuit′ : List ℕ) → ask.Outcome s p q plan₀ circuit₀ a plan circuit → ask.Outcome s′ p q plan₀ circuit₀ b plan′ circuit′
+      → (a .number ≡ b .number) × (plan ≡ plan′) × (a .number ≢ 100 → (a ≡ b) × (circuit ≡ circuit′))
   surplus-asked p q plan₀ circuit₀ a b plan circuit plan′ circuit′ x y =
       asked.outcome-same s′ p q plan₀ circuit₀ a b plan circuit plan′ circuit′ (surplus-ask p q plan₀ circuit₀ a plan circuit x) y
 
   -- THEOREM: every outcome of Ends for the one is an outcome for the other, with the same answer and the same buffers
-  pub surplus-ends : (first₀ second₀ : List ℕ) (a : ends.Answer) (first second : List ℕ) → ends.Outcome s first₀ second₀ a first second → ends.Outcome s′ first₀ second₀ a first second
+  pub surplus-ends : (first₀ second₀ : List ℕ) (a : Answer) (first second : List ℕ) → ends.Outcome s first₀ second₀ a first second → ends.Outcome s′ first₀ second₀ a first second
   surplus-ends first₀ second₀ a first second x =
       ends-alike (exact s′) (s′ .tables) (s′ .schedule) (exact-refusal s′) (exact-back s′) first₀ second₀ a first second
       (subst (λ (t : Sheet). ends.Outcome t first₀ second₀ a first second) same
       (ends-alike s (exact s .tables) (exact s .schedule) (sym (exact-refusal s)) (exact-alike s) first₀ second₀ a first second x))
 
   -- THEOREM: so what Ends answers for the one and for the other agrees: the same number, and the same ends or the same refusal
-  pub surplus-ended : (first₀ second₀ : List ℕ) (a b : ends.Answer) (first second first′ second′ : List ℕ) → ends.Outcome s first₀ second₀ a first second → ends.Outcome s′ first₀ second₀ b first′ second′
-      → ended.Agree a b
+  pub surplus-ended : (first₀ second₀ : List ℕ) (a b : Answer) (first second first′ second′ : List ℕ) → ends.Outcome s first₀ second₀ a first second → ends.Outcome s′ first₀ second₀ b first′ second′
+      → ends.Agree a b
   surplus-ended first₀ second₀ a b first second first′ second′ x y =
       ended.outcome-same s′ first₀ second₀ a b first second first′ second′ (surplus-ends first₀ second₀ a first second x) y

@@ -2,35 +2,20 @@
 use mathlib.Core.Path.{_≡_}
 use mathlib.Core.Logic.{_≢_}
 use mathlib.Core.Bool.{Bool, _&&_}
-use mathlib.Core.List.{List, [], _∷_, _++_}
-use Prim.Native.Nat.{ℕ, _*_, _≤_}
+use mathlib.Core.List.{List, [], _∷_}
+use Prim.Native.Nat.{ℕ, _*_, _≤_, _<_}
 use lib.Dec.{leb}
 use lib.ListN.{getD, length, drop}
 use lib.IntN.{pos}
 use lib.Signed.{_≤ℤ_}
-use Rattle.theory.specs.Arcs.{Rounds}
+use Rattle.theory.specs.Arcs.{Still, Rounds}
 use Rattle.tables.specs.Sheets.{Sheet, within, unless, refusal, otherwise}
+use Rattle.tables.specs.Answers.{Answer, answer}
 use Rattle.windows.specs.Windows.{Event}
 use Rattle.windows.specs.Inequalities.{Times, Solves, FromZero}
 use Rattle.windows.specs.Arcs.{node, nodes, continued, arcs}
-use Rattle.windows.specs.Circuits.{Step, numbers, Refutes}
-
--- "0 accepted, 100 refuted", or a refusal. An acceptance has its rounds, a refutation its arc count.
-pub data Answer : Type 0 where
-  accepted : ℕ → Answer
-  refuted : ℕ → Answer
-  refused : ℕ → Answer
-
-abbrev pub number : Answer → ℕ
-number (accepted rounds) = 0
-number (refuted count) = 100
-number (refused k) = k
-
--- what is returned with the number: the rounds, or the arc count; "Numbers 1 to 10 return only the number"
-abbrev pub values : Answer → List ℕ
-values (accepted rounds) = rounds ∷ []
-values (refuted count) = count ∷ []
-values (refused k) = []
+use Rattle.windows.specs.Circuits.{Step, Refutes}
+use Rattle.calls.specs.Circuits.{onto}
 
 -- 10: "q 1..1000; p 0..1,000,000,000"
 abbrev pub timed : ℕ → ℕ → Bool
@@ -62,16 +47,27 @@ module _ (s : Sheet) (p q : ℕ) where
     pub plan-rest : drop (nodes s) plan ≡ drop (nodes s) plan₀
     pub circuit-same : circuit ≡ circuit₀
 
-  -- "a refutation writes the circuit's places and no plan, and returns its arc count"
-  pub record Shows (plan₀ circuit₀ : List ℕ) (count : ℕ) (plan circuit : List ℕ) : Type 0 where
-    pub steps : List Step
+  -- "a refutation writes the circuit's places and no plan"
+  pub record Shows (plan₀ circuit₀ : List ℕ) (steps : List Step) (plan circuit : List ℕ) : Type 0 where
     pub refutes : Refutes s p q steps
-    pub counted : length steps ≡ count
-    pub circuit-is : circuit ≡ numbers steps ++ drop (4 * count) circuit₀
+    pub circuit-is : circuit ≡ onto steps circuit₀
     pub plan-same : plan ≡ plan₀
 
-  -- "Numbers 1 to 10 return only the number and alter nothing lent."
-  abbrev pub Outcome : List ℕ → List ℕ → Answer → List ℕ → List ℕ → Type 0
-  Outcome plan₀ circuit₀ (accepted rounds) plan circuit = (askRefusal s p q plan₀ circuit₀ ≡ 0) × Accepts plan₀ circuit₀ rounds plan circuit
-  Outcome plan₀ circuit₀ (refuted count) plan circuit = (askRefusal s p q plan₀ circuit₀ ≡ 0) × Shows plan₀ circuit₀ count plan circuit
-  Outcome plan₀ circuit₀ (refused k) plan circuit = (askRefusal s p q plan₀ circuit₀ ≡ k) × (k ≢ 0) × (plan ≡ plan₀) × (circuit ≡ circuit₀)
+-- The outcome: the answer and both buffers, by the sheet, p/q and the buffers before. An acceptance returns its rounds, a refutation "its arc
+-- count", and "Numbers 1 to 10 return only the number and alter nothing lent".
+pub data Outcome (s : Sheet) (p q : ℕ) (plan₀ circuit₀ : List ℕ) (a : Answer) (plan circuit : List ℕ) : Type 0 where
+  accepted : (rounds : ℕ) → a ≡ answer 0 (rounds ∷ []) → askRefusal s p q plan₀ circuit₀ ≡ 0 → Accepts s p q plan₀ circuit₀ rounds plan circuit
+      → Outcome s p q plan₀ circuit₀ a plan circuit
+  refuted : (steps : List Step) → a ≡ answer 100 (length steps ∷ []) → askRefusal s p q plan₀ circuit₀ ≡ 0 → Shows s p q plan₀ circuit₀ steps plan circuit
+      → Outcome s p q plan₀ circuit₀ a plan circuit
+  refused : (k : ℕ) → a ≡ answer k [] → askRefusal s p q plan₀ circuit₀ ≡ k → k ≢ 0 → plan ≡ plan₀ → circuit ≡ circuit₀ → Outcome s p q plan₀ circuit₀ a plan circuit
+
+-- the circuit that was given, and no arcs where none was
+abbrev pub given : {s : Sheet} {p q : ℕ} {plan₀ circuit₀ : List ℕ} {a : Answer} {plan circuit : List ℕ} → Outcome s p q plan₀ circuit₀ a plan circuit → List Step
+given (accepted rounds e none is) = []
+given (refuted steps e none is) = steps
+given (refused k e is some same same′) = []
+
+-- "On a refutation the number is N": none of the tables 0 to N-1 is equal to the one after it.
+abbrev pub Moving : Sheet → ℕ → ℕ → Type 0
+Moving s p q = (r : ℕ) → r < nodes s → Still (arcs s) p q (nodes s) r → ⊥

@@ -1,4 +1,3 @@
 pub mod Tests
 pub mod Rows
 pub mod Cases
-pub mod Misreadings

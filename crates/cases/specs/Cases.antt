@@ -1,4 +1,4 @@
--- "Sheets tried by hand": the rows of document 01's table that are marked with a star, in its order, and what each of them says.
+-- "Sheets tried by hand": the rows of document 01's table that are marked with a star, in its order, some without one, and what each of them says.
 use mathlib.Core.Path.{_≡_}
 use mathlib.Core.List.{List, [], _∷_, _++_, map}
 use Prim.Native.Nat.{ℕ, _+_, _-_, _*_}
@@ -8,6 +8,7 @@ use Rattle.theory.specs.Circuits.{total, ups, downs, forths, backs}
 use Rattle.theory.specs.Arcs.{rise, fall}
 use Rattle.theory.specs.Ends.{High, open-end, up-to}
 use Rattle.tables.specs.Sheets.{Sheet, sheet, noWindow, place, places}
+use Rattle.tables.specs.Answers.{Answer, answer}
 use Rattle.windows.specs.Windows.{Kind, A0, B0, A1, B1, number}
 use Rattle.windows.specs.Arcs.{nodes}
 use Rattle.windows.specs.Circuits.{Step, numbers, stepArc}
@@ -24,17 +25,18 @@ pub record Row : Type 0 where
   pub from : ℕ
   pub w : ℤ
 
+-- the same in one line
 abbrev pub row : ℕ → Kind → ℕ → ℕ → ℤ → Row
 row t k i j w = record { mode = t; kind = k; to = i; from = j; w = w }
 
 -- the tables with these windows and no other
-abbrev pub tablesOf : ℕ → ℕ → List Row → List ℤ
-tablesOf n m [] = replicate (places n m) noWindow
-tablesOf n m (r ∷ rest) = set (tablesOf n m rest) (place n (r .mode) (number (r .kind)) (r .to) (r .from)) (r .w)
+abbrev pub tablesWith : ℕ → ℕ → List Row → List ℤ
+tablesWith n m [] = replicate (places n m) noWindow
+tablesWith n m (r ∷ rest) = set (tablesWith n m rest) (place n (r .mode) (number (r .kind)) (r .to) (r .from)) (r .w)
 
 -- one mode in one position
 abbrev pub one : ℕ → List Row → Sheet
-one n rows = sheet n 1 1 (tablesOf n 1 rows) (0 ∷ [])
+one n rows = sheet n 1 1 (tablesWith n 1 rows) (0 ∷ [])
 
 -- n=1, 2:1,1=5, 3:1,1=8
 abbrev pub five-eight : Sheet
@@ -66,10 +68,11 @@ stopped = one 1 (row 0 B1 1 1 (pos 0) ∷ [])
 
 -- V=2, n=1, mode a 2:1,1=3, mode b 2:1,1=4 and 3:1,1=6, order a b
 abbrev pub order-ab : Sheet
-order-ab = sheet 1 2 2 (tablesOf 1 2 (row 0 A1 1 1 (pos 3) ∷ row 1 A1 1 1 (pos 4) ∷ row 1 B1 1 1 (pos 6) ∷ [])) (0 ∷ 1 ∷ [])
+order-ab = sheet 1 2 2 (tablesWith 1 2 (row 0 A1 1 1 (pos 3) ∷ row 1 A1 1 1 (pos 4) ∷ row 1 B1 1 1 (pos 6) ∷ [])) (0 ∷ 1 ∷ [])
 
 -- ---- questions and outcomes
 
+-- an arc by its four numbers
 abbrev pub step : Kind → ℕ → ℕ → ℕ → Step
 step k h i j = record { kind = k; position = h; to = i; from = j }
 
@@ -79,6 +82,8 @@ pub data Case : Type 0 where
   accepts : Sheet → ℕ → ℕ → List ℕ → ℕ → Case
   -- Ask p/q: the circuit and its total
   refutes : Sheet → ℕ → ℕ → List Step → ℕ → Case
+  -- Ask p/q: the number of the refusal
+  refuses : Sheet → ℕ → ℕ → ℕ → Case
   -- Ends: low and high, shown by these circuits
   finds : Sheet → ℕ → ℕ → High → List Step → List Step → Case
   -- Ends: none, with one circuit, its W and its c
@@ -86,6 +91,7 @@ pub data Case : Type 0 where
   -- Ends: none, with two circuits and their limits, low above high
   lacks-two : Sheet → List Step → List Step → ℕ → ℕ → Case
 
+-- the starred rows
 abbrev pub cases : List Case
 cases =
     accepts five-eight 5 1 (0 ∷ []) 0
@@ -102,30 +108,56 @@ cases =
     ∷ accepts order-ab 7 1 (0 ∷ 3 ∷ []) 1
     ∷ []
 
+-- "Updating the table while a round still reads it: the plan comes out the same, but the rounds can come out fewer." On a chain of three events each round
+-- hands the time on by one arc, so that two rounds are counted; a round that read its own table would hand it on to the end.
+-- n=3, 0:2,1=1, 0:3,2=1
+abbrev pub chain : Sheet
+chain = one 3 (row 0 A0 2 1 (pos 1) ∷ row 0 A0 3 2 (pos 1) ∷ [])
+
+-- rows without a star: "Ask 0/0 and 0/1001 are 10; 0/1000 on the sheet without windows is accepted", and the misreading that the starred ones leave open
+abbrev pub unstarred : List Case
+unstarred =
+    refuses bare 0 0 10
+    ∷ refuses bare 0 1001 10
+    ∷ accepts bare 0 1000 (0 ∷ []) 0
+    ∷ accepts chain 0 1 (0 ∷ 1 ∷ 2 ∷ []) 2
+    ∷ []
+
 -- ---- what a row says, of buffers of zeros that are just long enough
 
+-- a buffer of zeros
 abbrev pub zeros : ℕ → List ℕ
 zeros k = replicate k 0
 
--- a circuit's places in a buffer of 4N zeros
+-- 4N zeros, the room of a circuit
+abbrev pub fourN : Sheet → List ℕ
+fourN s = zeros (4 * nodes s)
+
+-- a circuit's places in it
 abbrev pub inRoom : Sheet → List Step → List ℕ
 inRoom s cs = numbers cs ++ zeros (4 * nodes s - 4 * length cs)
 
-abbrev pub Says : Case → Type 0
-Says (accepts s p q plan rounds) = ask.Outcome s p q (zeros (nodes s)) (zeros (4 * nodes s)) (ask.accepted rounds) plan (zeros (4 * nodes s))
-Says (refutes s p q cs t) =
-    ask.Outcome s p q (zeros (nodes s)) (zeros (4 * nodes s)) (ask.refuted (length cs)) (zeros (nodes s)) (inRoom s cs)
-    × (total (rise p q) (map (stepArc s) cs) ≡ total (fall p q) (map (stepArc s) cs) + t)
-Says (finds s a b high cs ds) = ends.Outcome s (zeros (4 * nodes s)) (zeros (4 * nodes s)) (ends.found a b high (length cs) (length ds)) (inRoom s cs) (inRoom s ds)
-Says (lacks-one s cs w c) =
-    ends.Outcome s (zeros (4 * nodes s)) (zeros (4 * nodes s)) (ends.none (length cs) 0) (inRoom s cs) (zeros (4 * nodes s))
+-- Ends' answer where it finds ends, in document 01's numbers
+abbrev pub foundAnswer : ℕ → ℕ → High → ℕ → ℕ → Answer
+foundAnswer a b open-end count₁ count₂ = answer 0 (a ∷ b ∷ count₁ ∷ count₂ ∷ [])
+foundAnswer a b (up-to c d) count₁ count₂ = answer 0 (a ∷ b ∷ c ∷ d ∷ count₁ ∷ count₂ ∷ [])
+
+-- what each row says of the call: the answer in document 01's numbers, and both buffers after it
+abbrev pub RowSays : Case → Type 0
+RowSays (accepts s p q plan rounds) = ask.Outcome s p q (zeros (nodes s)) (fourN s) (answer 0 (rounds ∷ [])) plan (fourN s)
+RowSays (refutes s p q cs t) =
+    ask.Outcome s p q (zeros (nodes s)) (fourN s) (answer 100 (length cs ∷ [])) (zeros (nodes s)) (inRoom s cs) × (total (rise p q) (map (stepArc s) cs) ≡ total (fall p q) (map (stepArc s) cs) + t)
+RowSays (refuses s p q k) = ask.Outcome s p q (zeros (nodes s)) (fourN s) (answer k []) (zeros (nodes s)) (fourN s)
+RowSays (finds s a b high cs ds) = ends.Outcome s (fourN s) (fourN s) (foundAnswer a b high (length cs) (length ds)) (inRoom s cs) (inRoom s ds)
+RowSays (lacks-one s cs w c) =
+    ends.Outcome s (fourN s) (fourN s) (answer 101 (length cs ∷ 0 ∷ [])) (inRoom s cs) (fourN s)
     × (ups (map (stepArc s) cs) ≡ downs (map (stepArc s) cs) + w) × (forths (map (stepArc s) cs) ≡ backs (map (stepArc s) cs) + c)
-Says (lacks-two s cs ds low high) =
-    ends.Outcome s (zeros (4 * nodes s)) (zeros (4 * nodes s)) (ends.none (length cs) (length ds)) (inRoom s cs) (inRoom s ds)
+RowSays (lacks-two s cs ds low high) =
+    ends.Outcome s (fourN s) (fourN s) (answer 101 (length cs ∷ length ds ∷ [])) (inRoom s cs) (inRoom s ds)
     × (ups (map (stepArc s) cs) ≡ downs (map (stepArc s) cs) + low * (backs (map (stepArc s) cs) - forths (map (stepArc s) cs)))
     × (downs (map (stepArc s) ds) ≡ ups (map (stepArc s) ds) + high * (forths (map (stepArc s) ds) - backs (map (stepArc s) ds)))
 
 -- every row of a list of rows
 abbrev pub AllSay : List Case → Type 0
 AllSay [] = Unit {0}
-AllSay (c ∷ rest) = Says c × AllSay rest
+AllSay (c ∷ rest) = RowSays c × AllSay rest

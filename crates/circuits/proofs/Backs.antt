@@ -5,13 +5,13 @@ use mathlib.Core.List.{List}
 use Prim.Native.Nat.{ℕ, zero, suc, _+_, _-_, _≤_, _<_}
 use native.Mathlib.Omega.{arith}
 use native.Mathlib.Decide.{decLt, ℕ-discrete}
-use lib.ListN.{length, getD, set, replicate}
+use lib.ListN.{length, getD, set}
 use lib.Seq.{getD-set-same, getD-set-other}
 use Rattle.theory.specs.Circuits.{Fresh, Distinct}
 use Rattle.theory.proofs.Pigeon.{Below, pigeon}
 use Rattle.turns.specs.Rounds.{span}
-use Rattle.layout.specs.declared.Window.{Window as Item}
-use Rattle.circuits.specs.Ways.{leaves, Marked, Shown, markAt, way, Led, Found, Least, part}
+use Rattle.layout.specs.declared.Record.{Record}
+use Rattle.circuits.specs.Ways.{leaves, Marked, Shown, markAt, way, Led, LoopFound, LeastAt, part}
 
 -- ---- numbers of a list by their places
 pub part-length : (xs : List ℕ) (m a : ℕ) → length (part xs a m) ≡ m
@@ -37,7 +37,7 @@ part-distinct xs (suc m) a e q h =
 
 -- ---- the way back as far as level r, where it is at u: the node of each level from r to N, the mark between each and the next, and
 -- for each node above r its level
-module _ (list : List Item) (marks : List ℕ) (n positions N v : ℕ) where
+module _ (list : List Record) (marks : List ℕ) (n positions N v : ℕ) where
   abbrev W : ℕ → ℕ
   W j = way (leaves list n positions) marks N v j
 
@@ -110,7 +110,7 @@ module _ (list : List Item) (marks : List ℕ) (n positions N v : ℕ) where
       ))
     ]
 
-    pub trail-found : (s : ℕ) → getD seen u 0 ≡ suc s → Found (leaves list n positions) marks N v path node r s
+    pub trail-found : (s : ℕ) → getD seen u 0 ≡ suc s → LoopFound (leaves list n positions) marks N v path node r s
     trail-found s z =
         let o = t .only u s z in
         record {
@@ -180,11 +180,11 @@ module _ (list : List Item) (marks : List ℕ) (n positions N v : ℕ) where
         above k h = getD-set-other node q k w 0 (λ (x : k ≡ q). omega arith)
 
 -- ---- the smallest node
-pub least-none : (xs : List ℕ) (low : ℕ) → Least xs low (low + 1) low
+pub least-none : (xs : List ℕ) (low : ℕ) → LeastAt xs low (low + 1) low
 least-none xs low = record { from = omega arith; below = omega arith; least = λ k p q. let e : k ≡ low = omega arith in rw e (omega arith) }
 
 -- one more, that is less or not
-pub least-less : (xs : List ℕ) (low k p : ℕ) → Least xs low k p → getD xs k 0 < getD xs p 0 → Least xs low (k + 1) k
+pub least-less : (xs : List ℕ) (low k p : ℕ) → LeastAt xs low k p → getD xs k 0 < getD xs p 0 → LeastAt xs low (k + 1) k
 least-less xs low k p l h =
     record {
       from = omega (arith, l .from, l .below);
@@ -192,7 +192,7 @@ least-less xs low k p l h =
       least = λ j a b. elim (decLt j k) [ yes q ↦ omega (arith, l .least j a q) | no q ↦ let e : j ≡ k = omega arith in rw e (omega arith) ];
     }
 
-pub least-more : (xs : List ℕ) (low k p : ℕ) → Least xs low k p → getD xs p 0 ≤ getD xs k 0 → Least xs low (k + 1) p
+pub least-more : (xs : List ℕ) (low k p : ℕ) → LeastAt xs low k p → getD xs p 0 ≤ getD xs k 0 → LeastAt xs low (k + 1) p
 least-more xs low k p l h =
     record {
       from = l .from;
@@ -200,13 +200,8 @@ least-more xs low k p l h =
       least = λ j a b. elim (decLt j k) [ yes q ↦ l .least j a q | no q ↦ let e : j ≡ k = omega arith in rw e h ];
     }
 
-pub zero-at : (n i : ℕ) → _≡_ {A = ℕ} (getD (replicate n 0) i 0) 0
-zero-at zero i = refl
-zero-at (suc n) zero = refl
-zero-at (suc n) (suc i) = zero-at n i
-
 -- the marks of a closed way name records
-pub found-shown : (list : List Item) (marks : List ℕ) (n positions N v : ℕ) (path node : List ℕ) (low high : ℕ) → Led list marks n positions N v → Found (leaves list n positions) marks N v path node low high
+pub found-shown : (list : List Record) (marks : List ℕ) (n positions N v : ℕ) (path node : List ℕ) (low high : ℕ) → Led list marks n positions N v → LoopFound (leaves list n positions) marks N v path node low high
     → (i : ℕ) → low ≤ i → i < high → Shown (getD path i 0)
 found-shown list marks n positions N v path node low high led f i h l =
     let e : N - suc (N - suc i) ≡ i = omega (arith, f .within) in

@@ -12,15 +12,16 @@ use Rattle.theory.proofs.Rounds.{table-mono}
 use Rattle.theory.proofs.Walks.{Rises}
 use Rattle.theory.proofs.Turning.{circuit-turn, total-turn, map-append, smallest-join, departures-append}
 use Rattle.tables.specs.Sheets.{Sheet}
-use Rattle.tables.proofs.Laws.{Admitted}
+use Rattle.tables.specs.Admitted.{Admitted}
 use Rattle.windows.specs.Windows.{number}
 use Rattle.windows.specs.Arcs.{nodes, arcs}
 use Rattle.windows.specs.Circuits.{Step, numbers, stepArc, Valid, AllValid, Refutes}
 use Rattle.windows.proofs.Steps.{valid-in, valid-join}
-use Rattle.layout.specs.declared.Window.{Window as Item}
-use Rattle.layout.specs.Records.{itemAt, Modes}
-use Rattle.turns.specs.Rounds.{span, walked, Told, Rose}
-use Rattle.circuits.specs.Ways.{recordOf, leaves, way, Found, Least, quads, part, Turned}
+use Rattle.layout.specs.declared.Record.{Record}
+use Rattle.layout.specs.Records.{listed}
+use Rattle.layout.proofs.Laying.{Modes}
+use Rattle.turns.specs.Rounds.{span, walked, MarkTold, Rose}
+use Rattle.circuits.specs.Ways.{recordOf, leaves, way, LoopFound, LeastAt, quads, part, Turned}
 use Rattle.circuits.proofs.Backs.{part-length, part-distinct}
 use Rattle.circuits.proofs.Writing.{sets-append, quads-length}
 use Rattle.circuits.proofs.Tracing.{stepOf, level, back-of, way-of}
@@ -37,20 +38,20 @@ smallest-part x xs zero a e q h = tt
 smallest-part x xs (suc m) a e q h = (h a (omega arith) (omega arith), smallest-part x xs m (suc a) e (omega arith) (λ k l. h k (omega arith)))
 
 -- a list begun at its smallest number
-first-part : (xs : List ℕ) (low high p : ℕ) → Least xs low high p → (ys : List ℕ) → Smallest (getD xs p 0) ys → (m : ℕ) → p + m ≡ high → FirstSmallest (part xs p m ++ ys)
+first-part : (xs : List ℕ) (low high p : ℕ) → LeastAt xs low high p → (ys : List ℕ) → Smallest (getD xs p 0) ys → (m : ℕ) → p + m ≡ high → FirstSmallest (part xs p m ++ ys)
 unfolding span
 first-part xs low high p l ys h zero e = absurd (omega (arith, l .below))
 first-part xs low high p l ys h (suc m) e =
     smallest-join (getD xs p 0) (part xs (suc p) m) ys (smallest-part (getD xs p 0) xs m (suc p) high (omega arith) (λ k a b. l .least k (omega (arith, l .from)) b)) h
 
-module _ (s : Sheet) (p q : ℕ) (list : List Item) (path node : List ℕ) where
+module _ (s : Sheet) (p q : ℕ) (list : List Record) (path node : List ℕ) where
   abbrev step : ℕ → Step
   step mark = stepOf list mark
 
   -- the mark m names a step from the node u of level k to the node v of level k + 1, with exactly its rise
   record Linked (k m u v : ℕ) : Type 0 where
     valid : Valid s (step m)
-    kind : number (step m .kind) ≡ itemAt list (recordOf m) .kind
+    kind : number (step m .kind) ≡ listed list (recordOf m) .kind
     leave : stepArc s (step m) .departure ≡ u
     arrive : stepArc s (step m) .arrival ≡ v
     exact : table (arcs s) p q (suc k) v + fall p q (stepArc s (step m)) ≡ table (arcs s) p q k u + rise p q (stepArc s (step m))
@@ -102,9 +103,9 @@ numbers-append [] ds = refl
 numbers-append (c ∷ cs) ds = ap (λ (l : List ℕ). number (c .kind) ∷ c .position ∷ c .to ∷ c .from ∷ l) (numbers-append cs ds)
 
 -- ---- a closed stretch, whose upper end rose
-module _ (s : Sheet) (p q : ℕ) (list : List Item) (path node : List ℕ) (low high h : ℕ) (links : Links s p q list path node low high) (some : low < high) (top : high ≡ suc h)
+module _ (s : Sheet) (p q : ℕ) (list : List Record) (path node : List ℕ) (low high h : ℕ) (links : Links s p q list path node low high) (some : low < high) (top : high ≡ suc h)
     (closed : getD node high 0 ≡ getD node low 0) (apart : (i j : ℕ) → low ≤ i → i < j → j < high → getD node i 0 ≡ getD node j 0 → ⊥)
-    (rose : table (arcs s) p q h (getD node high 0) < table (arcs s) p q high (getD node high 0)) (x : ℕ) (least : Least node low high x) where
+    (rose : table (arcs s) p q h (getD node high 0) < table (arcs s) p q high (getD node high 0)) (x : ℕ) (least : LeastAt node low high x) where
   abbrev R : ℕ → ℕ → List Step
   R a m = ring s p q list path node a m
 
@@ -218,10 +219,10 @@ module _ (s : Sheet) (p q : ℕ) (list : List Item) (path node : List ℕ) (low 
       (ap₂ (λ (a b : List ℕ). a ++ b) (sym (ring-numbers s p q list path node (high - x) x high behind late)) (sym (ring-numbers s p q list path node (x - low) low x front early)) ∙ sym (numbers-append (R x (high - x)) (R low (x - low))))
 
 -- ---- what the way back through the rounds' marks shows
-module _ (s : Sheet) (ok : Admitted s) (p q : ℕ) (l : List Item) (start : List ℕ) (laid : Modes (s .tables) (s .n) l start (s .m)) (marks : List ℕ) (N v : ℕ)
-    (told : (r u : ℕ) → r < N → u < N → Rose (walked l start (s .schedule) (s .n) (s .positions) p q (s .positions)) r u → Told (walked l start (s .schedule) (s .n) (s .positions) p q (s .positions)) marks r u)
+module _ (s : Sheet) (ok : Admitted s) (p q : ℕ) (l : List Record) (start : List ℕ) (laid : Modes (s .tables) (s .n) l start (s .m)) (marks : List ℕ) (N v : ℕ)
+    (told : (r u : ℕ) → r < N → u < N → Rose (walked l start (s .schedule) (s .n) (s .positions) p q (s .positions)) r u → MarkTold (walked l start (s .schedule) (s .n) (s .positions) p q (s .positions)) marks r u)
     (all : N ≡ nodes s) (below : v < N) (last : Rose (walked l start (s .schedule) (s .n) (s .positions) p q (s .positions)) (N - 1) v)
-    (path node : List ℕ) (low high : ℕ) (f : Found (leaves l (s .n) (s .positions)) marks N v path node low high) where
+    (path node : List ℕ) (low high : ℕ) (f : LoopFound (leaves l (s .n) (s .positions)) marks N v path node low high) where
   linked : Links s p q l path node low high
   linked k a b =
       let h : k < N = omega (arith, f .within) in

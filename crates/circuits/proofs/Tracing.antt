@@ -2,7 +2,7 @@
 -- round raised leads, level by level, from one time that rose to another, and never leaves the nodes.
 use mathlib.Core.Path.{_≡_, refl, sym, ap, ap₂, subst, _∙_}
 use mathlib.Core.Logic.{_≢_}
-use mathlib.Core.Bool.{Bool, true, false}
+use mathlib.Core.Bool.{Bool, true, false, cond}
 use mathlib.Core.List.{List}
 use Prim.Native.Nat.{ℕ, zero, suc, _+_, _-_, _*_, _≤_, _<_}
 use native.Mathlib.Omega.{arith}
@@ -13,21 +13,21 @@ use lib.ListN.{length, getD}
 use Rattle.theory.specs.Arcs.{rise, fall, table}
 use Rattle.theory.proofs.Walks.{Rises, departure-rises}
 use Rattle.tables.specs.Sheets.{Sheet}
-use Rattle.tables.proofs.Laws.{Admitted}
-use Rattle.windows.specs.Windows.{number, Has, mode}
+use Rattle.tables.specs.Admitted.{Admitted}
+use Rattle.windows.specs.Windows.{Kind, A0, B0, A1, B1, number, Has, mode}
 use Rattle.windows.specs.Arcs.{arc, arcOf, arcs, nodes}
 use Rattle.windows.specs.Circuits.{Step, stepArc, Valid}
-use Rattle.windows.specs.Buffers.{kindOf}
 use Rattle.windows.proofs.Laying.{arcs-within}
 use Rattle.windows.proofs.Limits.{nodes-few}
 use Rattle.windows.proofs.Steps.{valid-in}
 use Rattle.layout.specs.declared.Edge.{Edge}
-use Rattle.layout.specs.declared.Window.{Window as Item}
-use Rattle.layout.specs.Records.{item, itemAt, Modes}
+use Rattle.layout.specs.declared.Record.{Record}
+use Rattle.layout.specs.Records.{listed}
 use Rattle.layout.specs.Edges.{byKind, edgeOf}
-use Rattle.windows.proofs.Numbers.{kind-number}
-use Rattle.turns.specs.declared.Stand.{Stand}
-use Rattle.turns.specs.Rounds.{Named, pick, standOf, walked, Limits, Told, Rose}
+use Rattle.layout.proofs.Laying.{Modes}
+use Rattle.layout.proofs.Windows.{asRecord}
+use Rattle.turns.specs.declared.Site.{Site}
+use Rattle.turns.specs.Rounds.{Named, siteOf, walked, Limits, MarkTold, Rose}
 use Rattle.turns.proofs.Sheets.{weighed, Source, source, table-is}
 use Rattle.circuits.specs.Ways.{positionOf, recordOf, departureOf, leaves, Marked, markAt, way, Led}
 
@@ -40,7 +40,7 @@ module _ (g k : ℕ) (few : k < 4608) where
   record-of = omega arith
 
 -- the departure is a matter of kind, to and from alone
-departure-same : (k : ℕ) (a : Item) (q r here next c d : ℕ) → byKind k a q here next c .departure ≡ byKind k a r here next d .departure
+departure-same : (k : ℕ) (a : Record) (q r here next c d : ℕ) → byKind k a q here next c .departure ≡ byKind k a r here next d .departure
 unfolding byKind
 departure-same zero a q r here next c d = refl
 departure-same (suc zero) a q r here next c d = refl
@@ -48,26 +48,39 @@ departure-same (suc (suc zero)) a q r here next c d = refl
 departure-same (suc (suc (suc zero))) a q r here next c d = refl
 departure-same (suc (suc (suc (suc k)))) a q r here next c d = refl
 
-stand-same : (g n positions p q : ℕ) → (standOf g n positions p q .here ≡ standOf g n positions 0 0 .here) × (standOf g n positions p q .next ≡ standOf g n positions 0 0 .next)
-unfolding standOf
-stand-same g n positions p q = go (eqb (g + 1) positions)
+site-same : (g n positions p q : ℕ) → (siteOf g n positions p q .here ≡ siteOf g n positions 0 0 .here) × (siteOf g n positions p q .next ≡ siteOf g n positions 0 0 .next)
+unfolding siteOf
+site-same g n positions p q = go (eqb (g + 1) positions)
   where
     -- a position that is the last, and one that is not
-    last : ℕ → ℕ → Stand
+    last : ℕ → ℕ → Site
     last p q = record { here = g * n; next = 0; cross = p; q = q; mark = g * 4608 }
 
-    other : ℕ → Stand
+    other : ℕ → Site
     other q = record { here = g * n; next = (g + 1) * n; cross = 0; q = q; mark = g * 4608 }
 
-    go : (b : Bool) → (pick {A = Stand} b (last p q) (other q) .here ≡ pick {A = Stand} b (last 0 0) (other 0) .here) × (pick {A = Stand} b (last p q) (other q) .next ≡ pick {A = Stand} b (last 0 0) (other 0) .next)
+    go : (b : Bool) → (cond {A = Site} b (last p q) (other q) .here ≡ cond {A = Site} b (last 0 0) (other 0) .here) × (cond {A = Site} b (last p q) (other q) .next ≡ cond {A = Site} b (last 0 0) (other 0) .next)
     go true = (refl, refl)
     go false = (refl, refl)
 
--- the step that a mark names
-abbrev pub stepOf : List Item → ℕ → Step
-stepOf list mark = let a = itemAt list (recordOf mark) in record { kind = kindOf (a .kind); position = positionOf mark + 1; to = a .to; from = a .from }
+-- a kind, back from its number; a mark names no number past 3
+abbrev kindOf : ℕ → Kind
+kindOf zero = A0
+kindOf (suc zero) = B0
+kindOf (suc (suc zero)) = A1
+kindOf (suc (suc (suc k))) = B1
 
-module _ (s : Sheet) (ok : Admitted s) (p q : ℕ) (l : List Item) (start : List ℕ) (laid : Modes (s .tables) (s .n) l start (s .m)) where
+kind-number : (k : Kind) → kindOf (number k) ≡ k
+kind-number A0 = refl
+kind-number B0 = refl
+kind-number A1 = refl
+kind-number B1 = refl
+
+-- the step that a mark names
+abbrev pub stepOf : List Record → ℕ → Step
+stepOf list mark = let a = listed list (recordOf mark) in record { kind = kindOf (a .kind); position = positionOf mark + 1; to = a .to; from = a .from }
+
+module _ (s : Sheet) (ok : Admitted s) (p q : ℕ) (l : List Record) (start : List ℕ) (laid : Modes (s .tables) (s .n) l start (s .m)) where
   abbrev A : List Named
   A = walked l start (s .schedule) (s .n) (s .positions) p q (s .positions)
 
@@ -81,7 +94,7 @@ module _ (s : Sheet) (ok : Admitted s) (p q : ℕ) (l : List Item) (start : List
   pub record Stepped (r v m : ℕ) : Type 0 where
     pub valid : Valid s (step m)
     pub names : Marked l (s .n) (s .positions) m
-    pub kind : number (step m .kind) ≡ itemAt l (recordOf m) .kind
+    pub kind : number (step m .kind) ≡ listed l (recordOf m) .kind
     pub leave : stepArc s (step m) .departure ≡ leave-node m
     pub arrive : stepArc s (step m) .arrival ≡ v
     pub exact : table (arcs s) p q (suc r) v + fall p q (stepArc s (step m)) ≡ table (arcs s) p q r (stepArc s (step m) .departure) + rise p q (stepArc s (step m))
@@ -97,8 +110,8 @@ module _ (s : Sheet) (ok : Admitted s) (p q : ℕ) (l : List Item) (start : List
     record-at : recordOf (a .mark) ≡ o .at
     record-at = ap recordOf (o .mark) ∙ record-of (o .position) (o .at) (o .few)
 
-    item-at : itemAt l (recordOf (a .mark)) ≡ item (o .of)
-    item-at = ap (itemAt l) record-at ∙ o .stands
+    record-is : listed l (recordOf (a .mark)) ≡ asRecord (o .of)
+    record-is = ap (listed l) record-at ∙ o .stands
 
     -- the step, by the window
     pub named-step : Step
@@ -106,7 +119,7 @@ module _ (s : Sheet) (ok : Admitted s) (p q : ℕ) (l : List Item) (start : List
 
     step-is : step (a .mark) ≡ named-step
     unfolding named-step
-    step-is = rw (item-at, position, kind-number (o .of .kind)) (rw (one (o .position)))
+    step-is = rw (record-is, position, kind-number (o .of .kind)) (rw (one (o .position)))
       where
         one : (x : ℕ) → x + 1 ≡ suc x
         one x = omega arith
@@ -132,17 +145,17 @@ module _ (s : Sheet) (ok : Admitted s) (p q : ℕ) (l : List Item) (start : List
           limits = limits;
           some = omega (arith, o .mark);
           position = omega (arith, position, o .below);
-          to-first = rw item-at (o .has .to-event .0);
-          from-first = rw item-at (o .has .from-event .0);
+          to-first = rw record-is (o .has .to-event .0);
+          from-first = rw record-is (o .has .from-event .0);
         }
 
     leave : leave-node (a .mark) ≡ a .edge .departure
     unfolding departureOf
     leave =
-        let i = itemAt l (o .at) in
-        let at = standOf (o .position) (s .n) (s .positions) p q in
-        let e = stand-same (o .position) (s .n) (s .positions) p q in
-        ap₂ (λ (g k : ℕ). edgeOf (itemAt l k) 0 (standOf g (s .n) (s .positions) 0 0 .here) (standOf g (s .n) (s .positions) 0 0 .next) 0 .departure) position record-at
+        let i = listed l (o .at) in
+        let at = siteOf (o .position) (s .n) (s .positions) p q in
+        let e = site-same (o .position) (s .n) (s .positions) p q in
+        ap₂ (λ (g k : ℕ). edgeOf (listed l k) 0 (siteOf g (s .n) (s .positions) 0 0 .here) (siteOf g (s .n) (s .positions) 0 0 .next) 0 .departure) position record-at
         ∙ ap₂ (λ (x y : ℕ). byKind (i .kind) i 0 x y 0 .departure) (sym (e .0)) (sym (e .1))
         ∙ departure-same (i .kind) i 0 (at .q) (at .here) (at .next) 0 (at .cross)
         ∙ sym (ap (λ (x : Edge). x .departure) (o .made))
@@ -152,7 +165,7 @@ module _ (s : Sheet) (ok : Admitted s) (p q : ℕ) (l : List Item) (start : List
     edge-is = o .edge ∙ ap (weighed p q) (sym arc-named)
 
   -- a time that rose has a step
-  pub stepped : (marks : List ℕ) (r v : ℕ) → Told A marks r v → Stepped r v (markAt marks r v)
+  pub stepped : (marks : List ℕ) (r v : ℕ) → MarkTold A marks r v → Stepped r v (markAt marks r v)
   stepped marks r v t =
       let a = t .by in
       let o = source s ok p q l start laid (s .positions) (omega arith) (t .member) in
@@ -160,7 +173,7 @@ module _ (s : Sheet) (ok : Admitted s) (p q : ℕ) (l : List Item) (start : List
       rw (t .marked) (record {
         valid = subst (Valid s) (sym (step-is a o)) (valid-step a o);
         names = names a o;
-        kind = rw (item-at a o) (ap number (kind-number (o .of .kind)));
+        kind = rw (record-is a o) (ap number (kind-number (o .of .kind)));
         leave = sym (ap (λ (x : Edge). x .departure) e) ∙ sym (leave a o);
         arrive = sym (ap (λ (x : Edge). x .arrival) e) ∙ t .arrives;
         exact = omega (
@@ -175,7 +188,7 @@ module _ (s : Sheet) (ok : Admitted s) (p q : ℕ) (l : List Item) (start : List
       })
 
   -- ---- the way back
-  module _ (marks : List ℕ) (N v : ℕ) (told : (r u : ℕ) → r < N → u < N → Rose A r u → Told A marks r u) (all : N ≡ nodes s) (below : v < N) (last : Rose A (N - 1) v) where
+  module _ (marks : List ℕ) (N v : ℕ) (told : (r u : ℕ) → r < N → u < N → Rose A r u → MarkTold A marks r u) (all : N ≡ nodes s) (below : v < N) (last : Rose A (N - 1) v) where
     abbrev W : ℕ → ℕ
     W j = way leave-node marks N v j
 

@@ -8,7 +8,7 @@ use lib.Seq.{sets}
 use Rattle.turns.specs.Rounds.{span}
 use Rattle.turns.proofs.Folds.{span-snoc}
 use Rattle.circuits.proofs.Backs.{part-length}
-use Rattle.layout.specs.declared.Window.{Window as Item}
+use Rattle.layout.specs.declared.Record.{Record}
 use Rattle.circuits.specs.Ways.{quad, quads, part}
 
 pub sets-append : (xs ys l : List ℕ) (i k : ℕ) → i + length xs ≡ k → sets (sets l i xs) k ys ≡ sets l i (xs ++ ys)
@@ -22,7 +22,7 @@ four l i a b c d =
     let z : i + 3 ≡ suc (suc (suc i)) = omega arith in
     rw (x, y, z)
 
-module _ (list : List Item) where
+module _ (list : List Record) where
   pub quads-append : (xs ys : List ℕ) → quads list (xs ++ ys) ≡ quads list xs ++ quads list ys
   unfolding quads
   quads-append [] ys = refl
@@ -33,7 +33,7 @@ module _ (list : List Item) where
   quads-length [] = refl
   quads-length (x ∷ xs) = omega (arith, quads-length xs)
 
-module _ (list : List Item) (path : List ℕ) (a at : ℕ) (old : List ℕ) where
+module _ (list : List Record) (path : List ℕ) (a at : ℕ) (old : List ℕ) where
   pub write-none : old ≡ sets old (at * 4) (quads list (part path a 0))
   unfolding span quads
   write-none = refl

@@ -6,37 +6,40 @@ use mathlib.Core.List.{List, [], _∷_, _++_}
 use Prim.Native.Nat.{ℕ, zero, suc, _+_, _-_, _*_, _/_, _%_, _≤_, _<_}
 use lib.ListN.{length, getD}
 use lib.Seq.{sets}
-use Rattle.layout.specs.declared.Window.{Window as Item}
-use Rattle.layout.specs.Records.{itemAt}
+use Rattle.layout.specs.declared.Record.{Record}
+use Rattle.layout.specs.Records.{listed}
 use Rattle.layout.specs.Edges.{edgeOf}
-use Rattle.turns.specs.Rounds.{standOf, span, Limits}
+use Rattle.turns.specs.Rounds.{siteOf, span, Limits}
 
--- a mark is one more than position·4608 + record, the position counted from 0
+-- A mark is one more than position·4608 + record, the position counted from 0: the position that it names,
 abbrev pub positionOf : ℕ → ℕ
 positionOf mark = (mark - 1) / 4608
 
+-- and the record.
 abbrev pub recordOf : ℕ → ℕ
 recordOf mark = (mark - 1) % 4608
 
 -- the node that the marked arc leaves, which is that of the record a
-unfoldable pub departureOf : Item → ℕ → ℕ → ℕ → ℕ
+unfoldable pub departureOf : Record → ℕ → ℕ → ℕ → ℕ
 departureOf a n positions mark =
-    let at = standOf (positionOf mark) n positions 0 0 in
+    let at = siteOf (positionOf mark) n positions 0 0 in
     edgeOf a 0 (at .here) (at .next) 0 .departure
 
-abbrev pub leaves : List Item → ℕ → ℕ → ℕ → ℕ
-leaves list n positions mark = departureOf (itemAt list (recordOf mark)) n positions mark
+-- the node that the arc which a mark names leaves
+abbrev pub leaves : List Record → ℕ → ℕ → ℕ → ℕ
+leaves list n positions mark = departureOf (listed list (recordOf mark)) n positions mark
 
 -- the mark names a position, and the record there is between events
-pub record Names (a : Item) (n positions mark : ℕ) : Type 0 where
+pub record Names (a : Record) (n positions mark : ℕ) : Type 0 where
   pub limits : Limits n positions 0
   pub some : 1 ≤ mark
   pub position : positionOf mark < positions
   pub to-first : 1 ≤ a .to
   pub from-first : 1 ≤ a .from
 
-abbrev pub Marked : List Item → ℕ → ℕ → ℕ → Type 0
-Marked list n positions mark = Names (itemAt list (recordOf mark)) n positions mark
+-- so it does, with the record that stands in the list
+abbrev pub Marked : List Record → ℕ → ℕ → ℕ → Type 0
+Marked list n positions mark = Names (listed list (recordOf mark)) n positions mark
 
 -- the four numbers of the marked arc can be written
 pub record Shown (mark : ℕ) : Type 0 where
@@ -53,14 +56,14 @@ way source marks N v zero = v
 way source marks N v (suc j) = source (markAt marks (N - suc j) (way source marks N v j))
 
 -- the way back stays among N nodes
-pub record Led (list : List Item) (marks : List ℕ) (n positions N v : ℕ) : Type 0 where
+pub record Led (list : List Record) (marks : List ℕ) (n positions N v : ℕ) : Type 0 where
   pub few : N ≤ 192
   pub long : length marks ≡ 36864
   pub inside : (j : ℕ) → j ≤ N → way (leaves list n positions) marks N v j < N
   pub named : (j : ℕ) → j < N → Marked list n positions (markAt marks (N - suc j) (way (leaves list n positions) marks N v j))
 
 -- with room for it
-pub record Ready (list : List Item) (marks : List ℕ) (n positions N v : ℕ) (path node seen : List ℕ) : Type 0 where
+pub record BackReady (list : List Record) (marks : List ℕ) (n positions N v : ℕ) (path node seen : List ℕ) : Type 0 where
   pub led : Led list marks n positions N v
   pub paths : N ≤ length path
   pub nodes : N < length node
@@ -68,7 +71,7 @@ pub record Ready (list : List Item) (marks : List ℕ) (n positions N v : ℕ) (
   pub unseen : (x : ℕ) → getD seen x 0 ≡ 0
 
 -- the nodes of the levels low to high and the marks between them: closed, and no node twice
-pub record Found (source : ℕ → ℕ) (marks : List ℕ) (N v : ℕ) (path node : List ℕ) (low high : ℕ) : Type 0 where
+pub record LoopFound (source : ℕ → ℕ) (marks : List ℕ) (N v : ℕ) (path node : List ℕ) (low high : ℕ) : Type 0 where
   pub some : low < high
   pub within : high ≤ N
   pub nodes : (k : ℕ) → low ≤ k → k ≤ high → getD node k 0 ≡ way source marks N v (N - k)
@@ -77,16 +80,17 @@ pub record Found (source : ℕ → ℕ) (marks : List ℕ) (N v : ℕ) (path nod
   pub apart : (i j : ℕ) → low ≤ i → i < j → j < high → getD node i 0 ≢ getD node j 0
 
 -- p is the place of a smallest number from low on, below high
-pub record Least (xs : List ℕ) (low high p : ℕ) : Type 0 where
+pub record LeastAt (xs : List ℕ) (low high p : ℕ) : Type 0 where
   pub from : low ≤ p
   pub below : p < high
   pub least : (k : ℕ) → low ≤ k → k < high → getD xs p 0 ≤ getD xs k 0
 
 -- "An arc is four numbers: kind, position, to, from."
-abbrev pub quad : List Item → ℕ → List ℕ
-quad list mark = let a = itemAt list (recordOf mark) in a .kind ∷ (positionOf mark + 1) ∷ a .to ∷ a .from ∷ []
+abbrev pub quad : List Record → ℕ → List ℕ
+quad list mark = let a = listed list (recordOf mark) in a .kind ∷ (positionOf mark + 1) ∷ a .to ∷ a .from ∷ []
 
-unfoldable pub quads : List Item → List ℕ → List ℕ
+-- the four numbers of each marked arc, one after the other
+unfoldable pub quads : List Record → List ℕ → List ℕ
 quads list [] = []
 quads list (mark ∷ rest) = quad list mark ++ quads list rest
 
@@ -95,17 +99,17 @@ abbrev pub part : List ℕ → ℕ → ℕ → List ℕ
 part path a m = span (λ i. getD path i 0) a m
 
 -- the arcs of the path from p to high, and then those from low to p, are written from the start of the circuit's buffer on
-pub record Turned (list : List Item) (path node : List ℕ) (low high : ℕ) (old new : List ℕ) : Type 0 where
+pub record Turned (list : List Record) (path node : List ℕ) (low high : ℕ) (old new : List ℕ) : Type 0 where
   pub p : ℕ
-  pub least : Least node low high p
+  pub least : LeastAt node low high p
   pub written : new ≡ sets (sets old (0 * 4) (quads list (part path p (high - p)))) ((high - p) * 4) (quads list (part path low (p - low)))
 
 -- count arcs, which a closed way back gave
-pub record Traced (list : List Item) (marks : List ℕ) (n positions N v : ℕ) (old new : List ℕ) (count : ℕ) : Type 0 where
+pub record Traced (list : List Record) (marks : List ℕ) (n positions N v : ℕ) (old new : List ℕ) (count : ℕ) : Type 0 where
   pub path : List ℕ
   pub node : List ℕ
   pub low : ℕ
   pub high : ℕ
-  pub found : Found (leaves list n positions) marks N v path node low high
+  pub found : LoopFound (leaves list n positions) marks N v path node low high
   pub counted : count ≡ high - low
   pub turned : Turned list path node low high old new

@@ -6,23 +6,23 @@ ghost use mathlib.Core.List.{[], _∷_};
 ghost use Prim.Native.Nat.{ℕ, _+_, _-_, _*_, _≤_, _<_};
 ghost use lib.ListN.{length, getD};
 ghost use lib.Seq.{sets};
-ghost use Rattle.circuits.specs.Ways.{recordOf, departureOf, leaves, Names, Shown, Ready, Led, Found, Least, quads, part, Turned, Traced};
+ghost use Rattle.circuits.specs.Ways.{recordOf, departureOf, leaves, Names, Shown, BackReady, Led, LoopFound, LeastAt, quads, part, Turned, Traced};
 
 // The record that a mark names. A mark is one more than position·4608 + record, the position counted from 0.
 fn record_of(mark: u32) -> usize
     requires { ⌜ 1 ≤ mark ⌝ }
     ensures { λ r. ⌜ (r ≡ recordOf mark) × (r < 4608) ⌝ }
 {
-    (mark as usize - 1) % turns::RECORDS
+    (mark as usize - 1) % tables::PLACES
 }
 
 // The node that the marked arc leaves, which is that of the record w.
-fn departure(w: layout::Window, n: usize, positions: usize, mark: u32) -> usize
+fn departure(w: layout::Record, n: usize, positions: usize, mark: u32) -> usize
     requires { ⌜ Names w n positions mark ⌝ }
     ensures { λ r. ⌜ r ≡ departureOf w n positions mark ⌝ }
 {
-    let position = (mark as usize - 1) / turns::RECORDS;
-    let at = turns::stand_at(position, n, positions, 0, 0);
+    let position = (mark as usize - 1) / tables::PLACES;
+    let at = turns::site_at(position, n, positions, 0, 0);
     let arc = layout::edge_of(w, 0, at.here, at.next, 0);
     arc.departure
 }
@@ -35,7 +35,7 @@ struct Stretch {
 
 // Goes back from the node v, which the last round raised, by the arc that each mark names, one row at a time, until a node is met again.
 fn back(
-    list: [layout::Window; 4608],
+    list: [layout::Record; tables::PLACES],
     n: usize,
     positions: usize,
     marks: &[u32],
@@ -45,8 +45,8 @@ fn back(
     node: &mut [u8],
     seen: &mut [u8],
 ) -> Stretch
-    requires { ⌜ Ready list (now marks) n positions nodes v (now path) (now node) (now seen) ⌝ }
-    ensures { λ r. ⌜ Found (leaves list n positions) (now (marks .entry)) nodes v (now (path .exit)) (now (node .exit)) (r .low) (r .high) ⌝ }
+    requires { ⌜ BackReady list (now marks) n positions nodes v (now path) (now node) (now seen) ⌝ }
+    ensures { λ r. ⌜ LoopFound (leaves list n positions) (now (marks .entry)) nodes v (now (path .exit)) (now (node .exit)) (r .low) (r .high) ⌝ }
 {
     node[nodes] = v as u8;
     let mut r = nodes;
@@ -54,7 +54,7 @@ fn back(
     while seen[u] == 0 {
         seen[u] = (r + 1) as u8;
         r -= 1;
-        let mark = marks[r * turns::NODES + u];
+        let mark = marks[r * tables::NODES + u];
         path[r] = mark;
         let k = record_of(mark);
         u = departure(list[k], n, positions, mark);
@@ -67,7 +67,7 @@ fn back(
 // The place of the smallest node from `low` on, below `high`.
 fn least(node: &[u8], low: usize, high: usize) -> usize
     requires { ⌜ (low < high) × (high ≤ length (now node)) ⌝ }
-    ensures { λ r. ⌜ Least (now (node .entry)) low high r ⌝ }
+    ensures { λ r. ⌜ LeastAt (now (node .entry)) low high r ⌝ }
 {
     let mut p = low;
     let mut k = low + 1;
@@ -81,7 +81,7 @@ fn least(node: &[u8], low: usize, high: usize) -> usize
 }
 
 // Writes the four numbers of an arc from a place of the circuit's buffer on.
-fn write_arc(circuit: &mut [u8], at: usize, w: layout::Window, position: u8)
+fn write_arc(circuit: &mut [u8], at: usize, w: layout::Record, position: u8)
     requires { ⌜ at + 4 ≤ length (now circuit) ⌝ }
     ensures { λ _. ⌜ now (circuit .exit) ≡ sets (now (circuit .entry)) at (w .kind ∷ position ∷ w .to ∷ w .from ∷ []) ⌝ }
 {
@@ -93,7 +93,7 @@ fn write_arc(circuit: &mut [u8], at: usize, w: layout::Window, position: u8)
 
 // Writes the arcs that m marks of the path name, from `a` on, as arcs of the circuit from `at` on.
 fn write(
-    list: [layout::Window; 4608],
+    list: [layout::Record; tables::PLACES],
     path: &[u32],
     a: usize,
     m: usize,
@@ -107,7 +107,7 @@ fn write(
     while j < m {
         let mark = path[a + j];
         let k = record_of(mark);
-        let position = ((mark as usize - 1) / turns::RECORDS + 1) as u8;
+        let position = ((mark as usize - 1) / tables::PLACES + 1) as u8;
         write_arc(circuit, (at + j) * 4, list[k], position);
         j += 1;
     }
@@ -115,7 +115,7 @@ fn write(
 
 // Writes the closed stretch of a path as a circuit, beginning with the arc that leaves the smallest node.
 fn turn(
-    list: [layout::Window; 4608],
+    list: [layout::Record; tables::PLACES],
     path: &[u32],
     node: &[u8],
     low: usize,
@@ -132,7 +132,7 @@ fn turn(
 
 // Writes a circuit from the marks of the rounds into the buffer, and gives the count of its arcs.
 pub fn refute(
-    list: [layout::Window; 4608],
+    list: [layout::Record; tables::PLACES],
     n: usize,
     positions: usize,
     marks: &[u32],
@@ -143,9 +143,9 @@ pub fn refute(
     requires { ⌜ Led list (now marks) n positions nodes v × (nodes * 4 ≤ length (now circuit)) ⌝ }
     ensures { λ r. ⌜ Traced list (now (marks .entry)) n positions nodes v (now (circuit .entry)) (now (circuit .exit)) r ⌝ }
 {
-    let mut path = [0u32; 192];
-    let mut node = [0u8; 193];
-    let mut seen = [0u8; 192];
+    let mut path = [0u32; tables::NODES];
+    let mut node = [0u8; tables::NODES + 1];
+    let mut seen = [0u8; tables::NODES];
     let met = back(
         list,
         n,

@@ -6,13 +6,10 @@ use search::Descended;
 use search::Stand;
 use search::buffers::copy;
 ghost use mathlib.Core.Path.{_≡_};
-ghost use mathlib.Core.Bool.{_&&_};
-ghost use Prim.Native.Nat.{_*_, _≤_};
-ghost use lib.Dec.{leb};
 ghost use lib.ListN.{length};
 ghost use Rattle.tables.specs.Sheets.{sheet};
 ghost use Rattle.calls.specs.Ends.{endsRefusal, Outcome};
-ghost use Rattle.ends.specs.Answers.{answer, FindReady, LowReady, HighReady, HighFound};
+ghost use Rattle.ends.specs.Answers.{answerEnded, FindReady, LowReady, HighReady, HighFound};
 
 // The highest cycle time: none, or a fraction in lowest terms.
 pub enum High {
@@ -38,11 +35,11 @@ pub enum Ended {
     },
 }
 
-// Room for a circuit of 192 arcs.
-fn circuit_room() -> [u8; 768]
+// Room for the longest circuit.
+fn circuit_room() -> [u8; tables::CIRCUIT]
     ensures { λ r. ⌜ length r ≡ 768 ⌝ }
 {
-    [0; 768]
+    [0; tables::CIRCUIT]
 }
 
 // High, with the arc count of its circuit.
@@ -98,7 +95,7 @@ fn finish_low(
     second: &mut [u8],
 ) -> Ended
     requires { ⌜ LowReady (sheet n m positions (now tables) (now schedule)) at (now low) (now found) (now first) (now second) ⌝ }
-    ensures { λ r. ⌜ Outcome (sheet n m positions (now (tables .entry)) (now (schedule .entry))) (now (first .entry)) (now (second .entry)) (answer r) (now (first .exit)) (now (second .exit)) ⌝ }
+    ensures { λ r. ⌜ Outcome (sheet n m positions (now (tables .entry)) (now (schedule .entry))) (now (first .entry)) (now (second .entry)) (answerEnded r) (now (first .exit)) (now (second .exit)) ⌝ }
 {
     copy(low, at.arcs, first);
     let highest = find_high(n, m, positions, tables, schedule, at, low, found, second);
@@ -125,7 +122,7 @@ fn find(
     second: &mut [u8],
 ) -> Ended
     requires { ⌜ FindReady (sheet n m positions (now tables) (now schedule)) (now low) (now found) (now first) (now second) ⌝ }
-    ensures { λ r. ⌜ Outcome (sheet n m positions (now (tables .entry)) (now (schedule .entry))) (now (first .entry)) (now (second .entry)) (answer r) (now (first .exit)) (now (second .exit)) ⌝ }
+    ensures { λ r. ⌜ Outcome (sheet n m positions (now (tables .entry)) (now (schedule .entry))) (now (first .entry)) (now (second .entry)) (answerEnded r) (now (first .exit)) (now (second .exit)) ⌝ }
 {
     match search::climb(n, m, positions, tables, schedule, low, found) {
         Climbed::Low(at) => finish_low(
@@ -165,7 +162,7 @@ fn settle(
     second: &mut [u8],
 ) -> Ended
     requires { ⌜ endsRefusal (sheet n m positions (now tables) (now schedule)) (now first) (now second) ≡ 0 ⌝ }
-    ensures { λ r. ⌜ Outcome (sheet n m positions (now (tables .entry)) (now (schedule .entry))) (now (first .entry)) (now (second .entry)) (answer r) (now (first .exit)) (now (second .exit)) ⌝ }
+    ensures { λ r. ⌜ Outcome (sheet n m positions (now (tables .entry)) (now (schedule .entry))) (now (first .entry)) (now (second .entry)) (answerEnded r) (now (first .exit)) (now (second .exit)) ⌝ }
 {
     let mut low = circuit_room();
     let mut found = circuit_room();
@@ -182,14 +179,6 @@ fn settle(
     )
 }
 
-// Whether both buffers have 4N places.
-fn is_roomy(nodes: usize, first: usize, second: usize) -> bool
-    requires { ⌜ nodes ≤ 192 ⌝ }
-    ensures { λ r. ⌜ r ≡ (leb (4 * nodes) first && leb (4 * nodes) second) ⌝ }
-{
-    4 * nodes <= first && 4 * nodes <= second
-}
-
 // The lowest and highest cycle time, with circuits that show them, four numbers an arc, in the first places of the two buffers; or none, with
 // the circuits that show it; or refused, by 4, 5, 6 or 9.
 pub fn ends(
@@ -201,13 +190,14 @@ pub fn ends(
     first: &mut [u8],
     second: &mut [u8],
 ) -> Ended
-    ensures { λ r. ⌜ Outcome (sheet n m positions (now (tables .entry)) (now (schedule .entry))) (now (first .entry)) (now (second .entry)) (answer r) (now (first .exit)) (now (second .exit)) ⌝ }
+    ensures { λ r. ⌜ Outcome (sheet n m positions (now (tables .entry)) (now (schedule .entry))) (now (first .entry)) (now (second .entry)) (answerEnded r) (now (first .exit)) (now (second .exit)) ⌝ }
 {
     let refusal = tables::judge(n, m, positions, tables, schedule);
     if refusal != 0 {
         return Ended::Refused { number: refusal };
     }
-    if !is_roomy(positions * n, first.len(), second.len()) {
+    let numbers = 4 * (positions * n);
+    if !tables::is_roomy(numbers, first.len(), numbers, second.len()) {
         return Ended::Refused { number: 9 };
     }
     settle(n, m, positions, tables, schedule, first, second)

@@ -4,6 +4,7 @@
 ghost use Prim.Native.Nat.{_<_};
 ghost use Rattle.theory.specs.Ends.{Greatest, Reduces};
 
+// top/bottom.
 pub struct Fraction {
     pub top: u64,
     pub bottom: u64,

@@ -6,13 +6,13 @@ use reader::Read;
 ghost use mathlib.Core.Path.{_≡_};
 ghost use lib.ListN.{length};
 ghost use Rattle.tables.specs.Sheets.{sheet, refusal};
-ghost use Rattle.calls.specs.Ask.{timed, number};
-ghost use Rattle.ask.specs.Answers.{answer};
+ghost use Rattle.calls.specs.Ask.{timed};
+ghost use Rattle.ask.specs.Answers.{answerAsked};
 ghost use Rattle.calls.specs.Host.{Answers, Verdict};
 
 // The number of Ask's answer.
 fn number_of(asked: Asked) -> u32
-    ensures { λ r. ⌜ r ≡ number (answer asked) ⌝ }
+    ensures { λ r. ⌜ r ≡ answerAsked asked .number ⌝ }
 {
     match asked {
         Asked::Accepted { rounds: _ } => 0,
@@ -39,7 +39,7 @@ fn settle(
     number_of(ask::ask(n, m, positions, tables, schedule, p, q, plan, circuit))
 }
 
-// Makes room for the plan and the circuit of 192 nodes.
+// Makes room for the longest plan and circuit.
 fn decide(
     n: usize,
     m: usize,
@@ -52,8 +52,8 @@ fn decide(
     requires { ⌜ refusal (sheet n m positions (now tables) (now schedule)) ≡ 0 ⌝ }
     ensures { λ r. ⌜ Answers (timed p q) (sheet n m positions (now (tables .entry)) (now (schedule .entry))) p q r ⌝ }
 {
-    let mut plan = [0u64; 192];
-    let mut circuit = [0u8; 768];
+    let mut plan = [0u64; tables::NODES];
+    let mut circuit = [0u8; tables::CIRCUIT];
     settle(
         n,
         m,
@@ -96,7 +96,7 @@ fn judge(file: &[u8], p: u64, q: u64, tables: &mut [i32], schedule: &mut [u8]) -
 pub extern "C" fn tamulehk_ask(file: &[u8], p: u64, q: u64) -> u32
     ensures { λ r. ⌜ Verdict (now (file .entry)) p q r ⌝ }
 {
-    let mut tables = [0i32; 4608];
-    let mut schedule = [0u8; 16];
+    let mut tables = [0i32; tables::PLACES];
+    let mut schedule = [0u8; tables::MOST_POSITIONS];
     judge(file, p, q, &mut tables, &mut schedule)
 }

@@ -1,136 +1,162 @@
--- The list while the windows are laid out: one place more of the tables puts one record or none. Then the modes' parts of it.
+-- The list while it is laid out: the records of the modes before, and of the places of the next mode's part that are passed. A place that has
+-- a window puts one record more, a place that has none puts nothing. Then the modes' parts of the list.
 use mathlib.Core.Path.{_≡_, refl, sym, ap, _∙_}
-use mathlib.Core.Bool.{Bool, true, false}
-use mathlib.Core.List.{List, [], _∷_, _++_, append-assoc}
-use Prim.Native.Nat.{ℕ, zero, suc, _+_, _-_, _*_, _/_, _%_, _≤_, _<_}
+use mathlib.Core.Bool.{Bool, true, false, cond}
+use mathlib.Core.List.{List, [], _∷_, _++_, append-assoc, append-nil}
+use Prim.Native.Nat.{ℕ, zero, suc, _+_, _-_, _*_, _/_, _≤_, _<_}
 use native.Mathlib.Omega.{arith}
-use native.Mathlib.Nat.{mul-pos, div-lt-iff-lt-mul, mul-add-mod-self-right, mod-eq-of-lt}
+use native.Mathlib.Nat.{mul-pos, div-lt-iff-lt-mul}
 use native.Mathlib.Decide.{decLt}
 use native.Mathlib.Numerals.{add-one}
 use lib.IntN.{ℤ, pos}
-use lib.ListN.{length, getD, set, drop, length-append, List·getD-append}
-use lib.Seq.{getD-set-same, getD-set-other, getD-append-seam, getD-append-add, getD-drop}
+use lib.ListN.{length, getD, set, drop, replicate, length-set, length-append, length-replicate, List·getD-append}
+use lib.Seq.{getD-set-same, getD-set-other, getD-append-seam, getD-append-add}
 use Rattle.tables.specs.Sheets.{absent}
-use Rattle.windows.specs.Windows.{Window}
-use Rattle.windows.specs.Arcs.{unless}
-use Rattle.layout.specs.declared.Window.{Window as Item}
-use Rattle.layout.specs.Records.{item, windowOf, windowsIn, modeWindows, laidIn, nothing, Laid, Starts, Modes}
+use Rattle.layout.specs.declared.Record.{Record}
+use Rattle.layout.specs.Records.{fromPlace, recordsIn, modeRecords, laidOut, blank, listed, Laid, Starts, Ahead}
 
-pub append-nil : {A : Type 0} (ws : List A) → ws ++ [] ≡ ws
-append-nil [] = refl
-append-nil {A} (w ∷ ws) = ap (λ (l : List A). w ∷ l) (append-nil ws)
+-- ---- the records of a part
 
--- ---- one place more, as the code counts
-module _ (tables : List ℤ) (n j : ℕ) (l : List Item) (w : ℕ) (v : ℤ) (is : v ≡ getD tables j (pos 0)) (laid : Laid (laidIn tables n j) l) (count : w ≡ length (laidIn tables n j)) where
-  pub laid-skip : absent v ≡ true → Laid (laidIn tables n (j + 1)) l × (w ≡ length (laidIn tables n (j + 1)))
-  unfolding laidIn
-  laid-skip e = rw (add-one j, ← is, e, append-nil) (laid, count)
+-- a place more, as the code counts, with a window or with none
+module _ (part : List ℤ) (n k : ℕ) (v : ℤ) (is : v ≡ getD part k (pos 0)) where
+  pub records-skip : absent v ≡ true → recordsIn part n (k + 1) ≡ recordsIn part n k
+  unfolding recordsIn
+  records-skip e = rw (add-one k, ← is, e, append-nil)
 
-  pub laid-put : absent v ≡ false → (a : Item) → a ≡ item (windowOf n (j % (4 * (n * n))) v) → w < length l → Laid (laidIn tables n (j + 1)) (set l w a) × (w + 1 ≡ length (laidIn tables n (j + 1)))
-  unfolding laidIn
-  laid-put e a h room = rw (add-one j, ← is, e, h) (go (laidIn tables n j) (windowOf n (j % (4 * (n * n))) v) laid count)
-    where
-      go : (ws : List Window) (b : Window) → Laid ws l → w ≡ length ws → Laid (ws ++ b ∷ []) (set l w (item b)) × (w + 1 ≡ length (ws ++ b ∷ []))
-      go ws b la c = (
-        λ i k. elim (decLt i (length ws)) [
-          | yes p ↦ getD-set-other l w i (item b) (item nothing) (λ x. omega arith) ∙ la i p ∙ ap item (sym (List·getD-append ws (b ∷ []) nothing i p))
-          | no p ↦
-              let d : i ≡ length ws = omega (arith, length-append ws (b ∷ [])) in
-              rw (d, ← c) (getD-set-same l w (item b) (item nothing) room ∙ ap item (sym (ap (λ (x : ℕ). getD (ws ++ b ∷ []) x nothing) c ∙ getD-append-seam ws b [] nothing)))
-        ],
-        omega (arith, length-append ws (b ∷ [])),
-      )
+  pub records-one : absent v ≡ false → recordsIn part n (k + 1) ≡ recordsIn part n k ++ fromPlace n k v ∷ []
+  unfolding recordsIn
+  records-one e = rw (add-one k, ← is, e)
 
-unless-few : (b : Bool) (a : Window) → length (unless b a) ≤ 1
-unless-few true a = omega arith
-unless-few false a = omega arith
+-- places that have no window are passed
+pub records-ahead : (part : List ℤ) (n size a k : ℕ) → Ahead part size a k → recordsIn part n k ≡ recordsIn part n a
+records-ahead part n size a k h = go (k - a) k (omega (arith, h .from)) (λ j. h .passed j)
+  where
+    go : (d e : ℕ) → a + d ≡ e → ((j : ℕ) → a ≤ j → j < e → absent (getD part j (pos 0)) ≡ true) → recordsIn part n e ≡ recordsIn part n a
+    go zero e same none = ap (recordsIn part n) (omega arith)
+    go (suc d) e same none =
+        let next : a + d + 1 ≡ e = omega arith in
+        ap (recordsIn part n) (sym next) ∙ records-skip part n (a + d) _ refl (none (a + d) (omega arith) (omega arith)) ∙ go d (a + d) refl (λ j p q. none j p (omega arith))
 
--- no more windows than places
-pub laid-few : (tables : List ℤ) (n j : ℕ) → length (laidIn tables n j) ≤ j
-unfolding laidIn
-laid-few tables n zero = omega arith
-laid-few tables n (suc j) =
-    let v = getD tables j (pos 0) in
-    let a = windowOf n (j % (4 * (n * n))) v in
-    omega (arith, laid-few tables n j, length-append (laidIn tables n j) (unless (absent v) a), unless-few (absent v) a)
+cell-few : (b : Bool) (a : Record) → length (cond b [] (a ∷ [])) ≤ 1
+cell-few true a = omega arith
+cell-few false a = omega arith
 
--- a window more or none, counted
-module _ (part : List ℤ) (n k w : ℕ) (v : ℤ) (is : v ≡ getD part k (pos 0)) (count : w ≡ length (windowsIn part n k)) where
-  pub count-skip : absent v ≡ true → w ≡ length (windowsIn part n (k + 1))
-  unfolding windowsIn
-  count-skip e = rw (add-one k, ← is, e, append-nil) count
-
-  pub count-one : absent v ≡ false → w + 1 ≡ length (windowsIn part n (k + 1))
-  unfolding windowsIn
-  count-one e = rw (add-one k, ← is, e) (omega (arith, length-append (windowsIn part n k) (windowOf n k v ∷ [])))
-
-pub windows-few : (part : List ℤ) (n k : ℕ) → length (windowsIn part n k) ≤ k
-unfolding windowsIn
-windows-few part n zero = omega arith
-windows-few part n (suc k) =
+-- no more records than places
+pub records-few : (part : List ℤ) (n k : ℕ) → length (recordsIn part n k) ≤ k
+unfolding recordsIn
+records-few part n zero = omega arith
+records-few part n (suc k) =
     let v = getD part k (pos 0) in
-    omega (arith, windows-few part n k, length-append (windowsIn part n k) (unless (absent v) (windowOf n k v)), unless-few (absent v) (windowOf n k v))
+    omega (arith, records-few part n k, length-append (recordsIn part n k) (cond (absent v) [] (fromPlace n k v ∷ [])), cell-few (absent v) (fromPlace n k v))
 
--- numbers of a place
+-- the kind of a place
 pub kind-few : (n k : ℕ) → 0 < n → k < 4 * (n * n) → k / (n * n) < 4
 kind-few n k h l = div-lt-iff-lt-mul (mul-pos h h) .1 l
 
--- ---- the modes' parts
+pub mode-few : (tables : List ℤ) (n t : ℕ) → length (modeRecords tables n t) ≤ 4 * (n * n)
+unfolding modeRecords
+mode-few tables n t = records-few _ n (4 * (n * n))
+
+pub laid-few : (tables : List ℤ) (n t : ℕ) → length (laidOut tables n t) ≤ t * (4 * (n * n))
+unfolding laidOut
+laid-few tables n zero = omega arith
+laid-few tables n (suc t) = omega (arith, laid-few tables n t, mode-few tables n t, length-append (laidOut tables n t) (modeRecords tables n t))
+
+-- ---- the list, while it is laid out
+
+-- one record more
+put : (rs l : List Record) (w : ℕ) (a : Record) → Laid rs l → w ≡ length rs → w < length l → Laid (rs ++ a ∷ []) (set l w a)
+put rs l w a laid count room i h =
+    elim (decLt i (length rs)) [
+      | yes p ↦ getD-set-other l w i a blank (λ x. omega arith) ∙ laid i p ∙ sym (List·getD-append rs (a ∷ []) blank i p)
+      | no p ↦
+          let d : i ≡ length rs = omega (arith, length-append rs (a ∷ [])) in
+          rw (d, ← count) (getD-set-same l w a blank room ∙ sym (ap (λ (x : ℕ). getD (rs ++ a ∷ []) x blank) count ∙ getD-append-seam rs a [] blank))
+    ]
+
 module _ (tables : List ℤ) (n : ℕ) where
   abbrev size : ℕ
   size = 4 * (n * n)
 
-  -- the windows laid out are those of the modes, one after the other
-  laid-part : (t k : ℕ) → k ≤ size → laidIn tables n (t * size + k) ≡ laidIn tables n (t * size) ++ windowsIn (drop (t * size) tables) n k
-  unfolding windowsIn laidIn
-  laid-part t zero h = let e : t * size + 0 ≡ t * size = omega arith in rw e (sym (append-nil (laidIn tables n (t * size))))
-  laid-part t (suc k) h =
-      let v = getD tables (t * size + k) (pos 0) in
-      let e : t * size + suc k ≡ suc (t * size + k) = omega arith in
-      let below : k < size = h in
-      rw (e, mul-add-mod-self-right t size k, mod-eq-of-lt below, getD-drop (t * size) tables k (pos 0))
-      (ap (λ (l : List Window). l ++ unless (absent v) (windowOf n k v)) (laid-part t k (omega arith)) ∙ append-assoc (laidIn tables n (t * size)) (windowsIn (drop (t * size) tables) n k) (unless (absent v) (windowOf n k v)))
+  abbrev part : ℕ → List ℤ
+  part t = drop (t * size) tables
 
-  laid-mode : (t : ℕ) → laidIn tables n (suc t * size) ≡ laidIn tables n (t * size) ++ modeWindows tables n t
-  unfolding modeWindows
-  laid-mode t = let e : suc t * size ≡ t * size + size = omega arith in rw e (laid-part t size (omega arith))
+  -- the records of t modes and of the first k places of the next
+  abbrev soFar : ℕ → ℕ → List Record
+  soFar t k = laidOut tables n t ++ recordsIn (part t) n k
 
-  -- what stands among the first places stays
-  laid-kept : (a d i : ℕ) → i < length (laidIn tables n a) → (i < length (laidIn tables n (a + d))) × (getD (laidIn tables n (a + d)) i nothing ≡ getD (laidIn tables n a) i nothing)
-  unfolding laidIn
+  -- these w records are laid out
+  pub record Filling (t k : ℕ) (l : List Record) (w : ℕ) : Type 0 where
+    pub room : length l ≡ 4608
+    pub laid : Laid (soFar t k) l
+    pub count : w ≡ length (soFar t k)
+
+  pub fill-none : Filling 0 0 (replicate 4608 blank) 0
+  unfolding laidOut recordsIn
+  fill-none = record { room = length-replicate 4608 blank; laid = λ i h. absurd (omega arith); count = refl }
+
+  pub fill-few : (t k : ℕ) (l : List Record) (w : ℕ) → Filling t k l w → w ≤ t * size + k
+  fill-few t k l w f = omega (arith, f .count, length-append (laidOut tables n t) (recordsIn (part t) n k), laid-few tables n t, records-few (part t) n k)
+
+  pub fill-ahead : (t a k : ℕ) (l : List Record) (w : ℕ) → Filling t a l w → Ahead (part t) size a k → Filling t k l w
+  fill-ahead t a k l w f h = let e = records-ahead (part t) n size a k h in record { room = f .room; laid = rw e (f .laid); count = rw e (f .count) }
+
+  pub fill-put : (t k : ℕ) (l : List Record) (w : ℕ) (v : ℤ) (a : Record) → Filling t k l w → v ≡ getD (part t) k (pos 0) → absent v ≡ false → a ≡ fromPlace n k v → w < 4608
+      → Filling t (k + 1) (set l w a) (w + 1)
+  fill-put t k l w v a f is there made small =
+      let one : soFar t (k + 1) ≡ soFar t k ++ a ∷ [] = rw (records-one (part t) n k v is there, made) (sym (append-assoc (laidOut tables n t) (recordsIn (part t) n k) (fromPlace n k v ∷ []))) in
+      record {
+        room = length-set l w a ∙ f .room;
+        laid = rw one (put (soFar t k) l w a (f .laid) (f .count) (omega (arith, f .room)));
+        count = rw one (omega (arith, f .count, length-append (soFar t k) (a ∷ [])));
+      }
+
+  -- a mode is done where its part ends
+  pub fill-mode : (t k : ℕ) (l : List Record) (w : ℕ) → Filling t k l w → k ≡ size → Filling (t + 1) 0 l w
+  unfolding laidOut recordsIn modeRecords
+  fill-mode t k l w f e =
+      let whole : soFar (t + 1) 0 ≡ soFar t k = append-nil (laidOut tables n (t + 1)) ∙ rw (add-one t, e) in
+      record { room = f .room; laid = rw whole (f .laid); count = rw whole (f .count) }
+
+  pub fill-done : (t m : ℕ) (l : List Record) (w : ℕ) → Filling t 0 l w → t ≡ m → Laid (laidOut tables n m) l
+  unfolding recordsIn
+  fill-done t m l w f e = rw (← e, ← append-nil (laidOut tables n t)) (f .laid)
+
+  -- ---- the modes' parts
+
+  -- what stands among the records of a modes stays
+  laid-kept : (a d i : ℕ) → i < length (laidOut tables n a) → (i < length (laidOut tables n (a + d))) × (listed (laidOut tables n (a + d)) i ≡ listed (laidOut tables n a) i)
+  unfolding laidOut
   laid-kept a zero i h = let e : a + 0 ≡ a = omega arith in rw e (h, refl)
   laid-kept a (suc d) i h =
       let r = laid-kept a d i h in
-      let more = unless (absent (getD tables (a + d) (pos 0))) (windowOf n ((a + d) % size) (getD tables (a + d) (pos 0))) in
+      let before = laidOut tables n (a + d) in
+      let more = modeRecords tables n (a + d) in
       let e : a + suc d ≡ suc (a + d) = omega arith in
-      rw e (omega (arith, r .0, length-append (laidIn tables n (a + d)) more), List·getD-append (laidIn tables n (a + d)) more nothing i (r .0) ∙ r .1)
+      rw e (omega (arith, r .0, length-append before more), List·getD-append before more blank i (r .0) ∙ r .1)
+
+  -- the records of mode t stand from start t on
+  pub record Modes (l : List Record) (start : List ℕ) (m : ℕ) : Type 0 where
+    pub first : getD start 0 0 ≡ 0
+    pub next : (t : ℕ) → t < m → getD start (suc t) 0 ≡ getD start t 0 + length (modeRecords tables n t)
+    pub inside : (t i : ℕ) → t < m → i < length (modeRecords tables n t) → listed l (getD start t 0 + i) ≡ listed (modeRecords tables n t) i
+    pub few : (t : ℕ) → t ≤ m → getD start t 0 ≤ t * size
 
   module _ (start : List ℕ) (m : ℕ) (begins : Starts tables n start m) where
-    start-is : (t : ℕ) → t ≤ m → getD start t 0 ≡ length (laidIn tables n (t * size))
-    unfolding laidIn
-    start-is zero h = let e : 0 * size ≡ 0 = omega arith in rw e (begins .first)
-    start-is (suc t) h = rw (laid-mode t) (omega (arith, begins .next t h, start-is t (omega arith), length-append (laidIn tables n (t * size)) (modeWindows tables n t)))
-
-    -- THEOREM: the list of all places is the modes' windows, each from its start on
-    pub modes : (l : List Item) → Laid (laidIn tables n (m * size)) l → Modes tables n l start m
+    -- THEOREM: the list is the modes' records, each mode's from its start on
+    pub modes : (l : List Record) → Laid (laidOut tables n m) l → Modes l start m
+    unfolding laidOut
     modes l laid =
         record {
-          starts = begins;
-          inside = λ j i h k.
-              let x = getD start j 0 + i in
-              let is = start-is j (omega arith) in
-              let a : x < length (laidIn tables n (suc j * size)) = rw (laid-mode j) (omega (arith, is, length-append (laidIn tables n (j * size)) (modeWindows tables n j))) in
-              let e : suc j * size + (m - suc j) * size ≡ m * size = whole j h in
-              let r = rw e at (laid-kept (suc j * size) ((m - suc j) * size) x a) in
-              laid x (r .0) ∙ ap item (r .1 ∙ at j i is);
-          few = λ j h. omega (arith, start-is j h, laid-few tables n (j * size));
+          first = begins 0 (omega arith);
+          next = λ t h. begins (suc t) h ∙ length-append (laidOut tables n t) (modeRecords tables n t) ∙ ap (λ (x : ℕ). x + length (modeRecords tables n t)) (sym (begins t (omega arith)));
+          inside = λ t i h k.
+              let before = laidOut tables n t in
+              let mine = modeRecords tables n t in
+              let r = rest t h (length before + i) (omega (arith, length-append before mine)) in
+              ap (λ (x : ℕ). listed l (x + i)) (begins t (omega arith)) ∙ laid (length before + i) (r .0) ∙ r .1 ∙ getD-append-add before mine i blank;
+          few = λ t h. omega (arith, begins t h, laid-few tables n t);
         }
       where
-        at : (j i : ℕ) → getD start j 0 ≡ length (laidIn tables n (j * size)) → getD (laidIn tables n (suc j * size)) (getD start j 0 + i) nothing ≡ getD (modeWindows tables n j) i nothing
-        at j i is = rw (laid-mode j, is) (getD-append-add (laidIn tables n (j * size)) (modeWindows tables n j) i nothing)
-
-        whole : (j : ℕ) → j < m → suc j * size + (m - suc j) * size ≡ m * size
-        whole j h = parts (m - suc j) (omega arith)
-          where
-            parts : (d : ℕ) → suc j + d ≡ m → suc j * size + d * size ≡ m * size
-            parts d e = rw (← e) (omega arith)
+        rest : (t : ℕ) → t < m → (i : ℕ) → i < length (laidOut tables n (suc t)) → (i < length (laidOut tables n m)) × (listed (laidOut tables n m) i ≡ listed (laidOut tables n (suc t)) i)
+        rest t h i k = let e : suc t + (m - suc t) ≡ m = omega arith in rw e at (laid-kept (suc t) (m - suc t) i k)

@@ -1,7 +1,8 @@
--- The windows laid out of a mode's part are the windows of the sheet's mode, in their order: the place of kind, to and from is
+-- The records laid out of a mode's part are those of the windows of the sheet's mode, in their order: the place of kind, to and from is
 -- (kind·n + to - 1)·n + from - 1, so rising places are rising kinds, then tos, then froms.
 use mathlib.Core.Path.{_≡_, refl, sym, ap, ap₂, _∙_}
-use mathlib.Core.List.{List, [], _++_, append-assoc}
+use mathlib.Core.Bool.{Bool, true, false, cond}
+use mathlib.Core.List.{List, [], _∷_, _++_, map, map-append, append-assoc, append-nil}
 use Prim.Native.Nat.{ℕ, zero, suc, _+_, _-_, _*_, _/_, _%_, _≤_, _<_}
 use native.Mathlib.Omega.{arith}
 use native.Mathlib.Nat.{mul-pos, mul-le-mul-right, mul-add-div-right, mul-add-mod-self-right, div-eq-of-lt, mod-eq-of-lt}
@@ -10,12 +11,23 @@ use lib.ListN.{length, getD, drop}
 use lib.Seq.{getD-drop}
 use Rattle.tables.specs.Sheets.{Sheet, noWindow, absent, place, places}
 use Rattle.windows.specs.Windows.{Kind, A0, B0, A1, B1, number, Window, entry}
-use Rattle.windows.specs.Arcs.{oneTo, each, unless, windowAt, windowsOf, windows}
-use Rattle.windows.proofs.Listed.{each-more}
+use Rattle.windows.specs.Arcs.{oneTo, each, kinds, unlessAbsent, windowAt, windowsTo, windowsOf, windows}
+use Rattle.windows.proofs.Listed.{each-same, each-more}
 use Rattle.windows.proofs.Limits.{number-small, place-below, getD-any}
-use Rattle.layout.proofs.Laying.{append-nil}
-use Rattle.windows.proofs.Numbers.{kind-number}
-use Rattle.layout.specs.Records.{windowOf, windowsIn, modeWindows}
+use Rattle.layout.specs.declared.Record.{Record}
+use Rattle.layout.specs.Records.{fromPlace, recordsIn, modeRecords}
+
+-- a window as a record
+abbrev pub asRecord : Window → Record
+asRecord a = record { kind = number (a .kind); to = a .to; from = a .from; w = a .w }
+
+-- the window of a blank record
+abbrev pub nothing : Window
+nothing = record { kind = A0; to = 0; from = 0; w = pos 0 }
+
+each-map : {A B C : Type 0} (f : A → B) (cs : List C) (g : C → List A) → each cs (λ c. map f (g c)) ≡ map f (each cs g)
+each-map f [] g = refl
+each-map f (c ∷ cs) g = ap (λ (l : List _). map f (g c) ++ l) (each-map f cs g) ∙ sym (map-append f (g c) (each cs g))
 
 -- f 0, f 1, .., f (k - 1), joined
 upTo : {A : Type 0} → (ℕ → List A) → ℕ → List A
@@ -82,13 +94,18 @@ module _ (n k i j : ℕ) (to : i < n) (from : j < n) where
   from-at = ap (λ (x : ℕ). x % n) again ∙ mul-add-mod-self-right (k * n + i) n j ∙ mod-eq-of-lt from
 
 -- what the code looks at in each place
-cell : List ℤ → ℕ → ℕ → List Window
-cell part n k = unless (absent (getD part k (pos 0))) (windowOf n k (getD part k (pos 0)))
+cell : List ℤ → ℕ → ℕ → List Record
+cell part n k = let w = getD part k (pos 0) in cond (absent w) [] (fromPlace n k w ∷ [])
 
-cells : (part : List ℤ) (n k : ℕ) → windowsIn part n k ≡ upTo (cell part n) k
-unfolding windowsIn upTo cell
+cells : (part : List ℤ) (n k : ℕ) → recordsIn part n k ≡ upTo (cell part n) k
+unfolding recordsIn upTo cell
 cells part n zero = refl
-cells part n (suc k) = ap (λ (l : List Window). l ++ cell part n k) (cells part n k)
+cells part n (suc k) = ap (λ (l : List Record). l ++ cell part n k) (cells part n k)
+
+-- the record of a window, unless there is none
+unless-record : (b : Bool) (a : Window) → map asRecord (unlessAbsent b a) ≡ cond b [] (asRecord a ∷ [])
+unless-record true a = refl
+unless-record false a = refl
 
 place-at : (n t k i j : ℕ) → t * (4 * (n * n)) + (k * (n * n) + (i * n + j)) ≡ place n t k (suc i) (suc j)
 place-at n t k i j = plain ∙ ap₂ (λ (x y : ℕ). ((4 * t + k) * n + x) * n + y) (less i) (less j)
@@ -112,20 +129,25 @@ module _ (s : Sheet) (t : ℕ) (mode : t < s .m) (long : places (s .n) (s .m) �
       ∙ ap (λ (x : ℕ). getD (s .tables) x (pos 0)) same
       ∙ getD-any (s .tables) (place (s .n) t (number k) (suc i) (suc j)) (pos 0) noWindow (omega arith)
 
-  cell-at : (k : Kind) (i j : ℕ) → i < s .n → j < s .n → cell part (s .n) (number k * (s .n * s .n) + (i * s .n + j)) ≡ windowAt s t k (suc i) (suc j)
+  cell-at : (k : Kind) (i j : ℕ) → i < s .n → j < s .n → cell part (s .n) (number k * (s .n * s .n) + (i * s .n + j)) ≡ map asRecord (windowAt s t k (suc i) (suc j))
   unfolding cell
   cell-at k i j to from =
-      rw (value-at k i j to from, kind-at (s .n) (number k) i j to from, to-at (s .n) (number k) i j to from, from-at (s .n) (number k) i j to from, kind-number k) (rw (one i, one j))
+      rw (value-at k i j to from, kind-at (s .n) (number k) i j to from, to-at (s .n) (number k) i j to from, from-at (s .n) (number k) i j to from, one i, one j)
+      (sym (unless-record (absent (entry s t k (suc i) (suc j))) (record { kind = k; to = suc i; from = suc j; w = entry s t k (suc i) (suc j) })))
     where
       one : (x : ℕ) → x + 1 ≡ suc x
       one x = omega arith
 
-  kind-cells : (k : Kind) → upTo (λ j. cell part (s .n) (number k * (s .n * s .n) + j)) (s .n * s .n) ≡ windowsOf s t k
-  kind-cells k = rows (s .n) (s .n) (s .n * s .n) (λ j. cell part (s .n) (number k * (s .n * s .n) + j)) (windowAt s t k) refl (cell-at k)
+  kind-cells : (k : Kind) → upTo (λ j. cell part (s .n) (number k * (s .n * s .n) + j)) (s .n * s .n) ≡ map asRecord (windowsOf s t k)
+  kind-cells k =
+      rows (s .n) (s .n) (s .n * s .n) (λ j. cell part (s .n) (number k * (s .n * s .n) + j)) (λ i j. map asRecord (windowAt s t k i j)) refl (cell-at k)
+      ∙ each-same (oneTo (s .n)) (λ i. each (oneTo (s .n)) (λ j. map asRecord (windowAt s t k i j))) (λ i. map asRecord (windowsTo s t k i)) (λ i _. each-map asRecord (oneTo (s .n)) (windowAt s t k i))
+      ∙ each-map asRecord (oneTo (s .n)) (windowsTo s t k)
 
-  -- THEOREM: the windows laid out for mode t are the windows present in mode t
-  pub mode-windows : modeWindows (s .tables) (s .n) t ≡ windows s t
-  unfolding modeWindows windows part
-  mode-windows =
+  -- THEOREM: the records laid out for mode t are those of the windows present in mode t
+  pub mode-records : modeRecords (s .tables) (s .n) t ≡ map asRecord (windows s t)
+  unfolding modeRecords windows part
+  mode-records =
       cells part (s .n) (4 * (s .n * s .n))
-      ∙ four (cell part (s .n)) (s .n * s .n) (windowsOf s t A0) (windowsOf s t B0) (windowsOf s t A1) (windowsOf s t B1) (kind-cells A0) (kind-cells B0) (kind-cells A1) (kind-cells B1)
+      ∙ four (cell part (s .n)) (s .n * s .n) (map asRecord (windowsOf s t A0)) (map asRecord (windowsOf s t B0)) (map asRecord (windowsOf s t A1)) (map asRecord (windowsOf s t B1)) (kind-cells A0) (kind-cells B0) (kind-cells A1) (kind-cells B1)
+      ∙ each-map asRecord kinds (windowsOf s t)

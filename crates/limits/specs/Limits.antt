@@ -6,7 +6,7 @@ use Rattle.limits.specs.declared.Climb.{Climb}
 use Rattle.limits.specs.declared.Climb.the-variants.{On, Alone, Both}
 
 -- c below 0: on to W/(-c) in lowest terms. c at least 0: W above 0, or not.
-abbrev pub Next : Weight → Climb → Type 0
-Next w (On top bottom) = (w .forths < w .backs) × Reduces (w .ups - w .downs) (w .backs - w .forths) top bottom
-Next w Alone = (w .backs ≤ w .forths) × (w .downs < w .ups)
-Next w Both = (w .backs ≤ w .forths) × (w .ups ≤ w .downs)
+abbrev pub Leads : Weight → Climb → Type 0
+Leads w (On top bottom) = (w .forths < w .backs) × Reduces (w .ups - w .downs) (w .backs - w .forths) top bottom
+Leads w Alone = (w .backs ≤ w .forths) × (w .downs < w .ups)
+Leads w Both = (w .backs ≤ w .forths) × (w .ups ≤ w .downs)

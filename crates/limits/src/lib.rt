@@ -4,7 +4,7 @@
 use fractions::Fraction;
 ghost use Prim.Native.Nat.{_-_, _≤_, _<_};
 ghost use Rattle.theory.specs.Ends.{Reduces};
-ghost use Rattle.limits.specs.Limits.{Next};
+ghost use Rattle.limits.specs.Limits.{Leads};
 
 // A circuit's sums: W is ups - downs, the total of its limits, and c is forths - backs, its kind-3 crossings less its kind-2 crossings.
 pub struct Weight {
@@ -22,9 +22,10 @@ pub enum Climb {
     Both,
 }
 
+// What a circuit above zero says of low: its limit, or that nothing works, alone or with the circuit before.
 pub fn next_low(weight: Weight) -> Climb
     requires { ⌜ (weight .forths < weight .backs → weight .downs ≤ weight .ups) ⌝ }
-    ensures { λ r. ⌜ Next weight r ⌝ }
+    ensures { λ r. ⌜ Leads weight r ⌝ }
 {
     if weight.forths < weight.backs {
         let limit = fractions::reduce(weight.ups - weight.downs, weight.backs - weight.forths);

@@ -19,6 +19,7 @@ arcLines circuit (suc count) = fourLine (getD circuit 0 0) (getD circuit 1 0) (g
 abbrev pub circuitText : List ℕ → List ℕ → ℕ → List ℕ
 circuitText word circuit count = line word (decimal count ∷ []) ++ arcLines circuit count
 
+-- high's circuit, where high is not open
 abbrev pub highText : High → List ℕ → ℕ → List ℕ
 highText open-end circuit count = []
 highText (up-to top bottom) circuit count = circuitText high-word circuit count
@@ -28,14 +29,18 @@ unfoldable pub timesLines : List ℕ → ℕ → ℕ → List ℕ
 timesLines plan n zero = []
 timesLines plan n (suc positions) = numbersLine (take n plan) ++ timesLines (drop n plan) n positions
 
+-- the line of q and rounds, and the lines of the times
 abbrev pub planText : ℕ → ℕ → List ℕ → ℕ → ℕ → List ℕ
 planText q rounds plan n positions = line plan-word (decimal q ∷ decimal rounds ∷ []) ++ timesLines plan n positions
 
+-- the line of low and high
 abbrev pub endsText : ℕ → ℕ → High → List ℕ
 endsText top bottom high = line ends-word (fraction top bottom ∷ highSpelled high ∷ [])
 
+-- the ends with their circuits
 abbrev pub foundText : ℕ → ℕ → High → List ℕ → ℕ → List ℕ → ℕ → List ℕ
 foundText top bottom high first count₁ second count₂ = endsText top bottom high ++ circuitText low-word first count₁ ++ highText high second count₂
 
+-- "none" with its circuits
 abbrev pub noneText : List ℕ → ℕ → List ℕ → ℕ → List ℕ
 noneText first count₁ second count₂ = line none-word [] ++ circuitText first-word first count₁ ++ circuitText second-word second count₂

@@ -59,6 +59,7 @@ line first rest = first ++ following rest
 abbrev pub fraction : ℕ → ℕ → List ℕ
 fraction top bottom = decimal top ++ 47 ∷ decimal bottom
 
+-- high, as a fraction or "open"
 abbrev pub highSpelled : High → List ℕ
 highSpelled open-end = open-word
 highSpelled (up-to top bottom) = fraction top bottom

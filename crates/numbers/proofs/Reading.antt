@@ -1,13 +1,13 @@
 -- What the number at a place is: its bound, and where it ends.
 use mathlib.Core.Path.{_≡_, refl, sym, ap, subst}
-use mathlib.Core.Bool.{Bool, true, false}
+use mathlib.Core.Bool.{Bool, true, false, cond}
 use mathlib.Core.List.{List}
 use Prim.Native.Nat.{ℕ, zero, suc, _+_, _-_, _*_, _%_, _≤_, _<_}
 use native.Mathlib.Omega.{arith}
-use borrow.Author.Tests.{ltb-true, lt-ltb, le-ltb}
+use borrow.Author.Tests.{ltb-true, lt-ltb, le-ltb, eq-eqb, ne-eqb}
 use lib.Dec.{ltb, eqb}
 use lib.ListN.{length, getD}
-use Rattle.numbers.specs.Groups.{pick, followed, group, numberIn, numberAt}
+use Rattle.numbers.specs.Groups.{followed, group, numberIn, numberAt}
 use Rattle.numbers.specs.Bounds.{Below}
 use Rattle.numbers.specs.declared.Number.{Number}
 use Rattle.numbers.specs.declared.Number.the-variants.{Value, Refused}
@@ -21,21 +21,21 @@ unroll (suc g) s at h = ap (λ (k : ℕ). group s at (numberIn k s (at + 1))) (l
     less : (g : ℕ) → g ≡ suc g - 1
     less g = omega arith
 
-pick-below : (b : Bool) (x y : Number) (m : ℕ) → Below m x → Below m y → Below m (pick b x y)
-pick-below true x y m p q = p
-pick-below false x y m p q = q
+cond-below : (b : Bool) (x y : Number) (m : ℕ) → Below m x → Below m y → Below m (cond b x y)
+cond-below true x y m p q = p
+cond-below false x y m p q = q
 
 followed-below : (low m : ℕ) (r : Number) → low < 128 → Below m r → Below (m * 128) (followed low r)
 unfolding followed
-followed-below low m (Value v next) l h = pick-below (eqb v 0) (Refused 2) (Value (low + v * 128) next) (m * 128) tt (omega arith)
+followed-below low m (Value v next) l h = cond-below (eqb v 0) (Refused 2) (Value (low + v * 128) next) (m * 128) tt (omega arith)
 followed-below low m (Refused k) l h = tt
 
 group-below : (s : List ℕ) (at m : ℕ) (r : Number) → 0 < m → Below m r → Below (m * 128) (group s at r)
 unfolding group
 group-below s at m r p h =
-    pick-below (ltb at (length s)) _ (Refused 1) (m * 128) (small (ltb (getD s at 0) 128) refl) tt
+    cond-below (ltb at (length s)) _ (Refused 1) (m * 128) (small (ltb (getD s at 0) 128) refl) tt
   where
-    small : (b : Bool) → ltb (getD s at 0) 128 ≡ b → Below (m * 128) (pick b (Value (getD s at 0) (at + 1)) (followed (getD s at 0 % 128) r))
+    small : (b : Bool) → ltb (getD s at 0) 128 ≡ b → Below (m * 128) (cond b (Value (getD s at 0) (at + 1)) (followed (getD s at 0 % 128) r))
     small true e = let k = ltb-true (getD s at 0) 128 e in omega arith
     small false e = followed-below (getD s at 0 % 128) m r (omega arith) h
 
@@ -67,32 +67,42 @@ module _ (s : List ℕ) (at b : ℕ) (rest : Number) (h : at < length s) (e : b 
   unfolding group
   group-more l = rw (lt-ltb _ _ h, ← e, le-ltb _ _ l)
 
+-- the two ways of what stands after a group that is marked as followed
+module _ (low v next : ℕ) where
+  pub followed-zero : v ≡ 0 → Refused 2 ≡ followed low (Value v next)
+  unfolding followed
+  followed-zero e = rw (eq-eqb _ _ e)
+
+  pub followed-more : (v ≡ 0 → ⊥) → Value (low + v * 128) next ≡ followed low (Value v next)
+  unfolding followed
+  followed-more h = rw (ne-eqb _ _ h)
+
 -- a value ends after its start, and within the file
-abbrev pub Ends : ℕ → ℕ → Number → Type 0
-Ends at len (Value v next) = (at < next) × (next ≤ len)
-Ends at len (Refused k) = Unit
+abbrev pub EndsWithin : ℕ → ℕ → Number → Type 0
+EndsWithin at len (Value v next) = (at < next) × (next ≤ len)
+EndsWithin at len (Refused k) = Unit
 
-pick-ends : (b : Bool) (x y : Number) (at len : ℕ) → Ends at len x → Ends at len y → Ends at len (pick b x y)
-pick-ends true x y at len p q = p
-pick-ends false x y at len p q = q
+cond-ends : (b : Bool) (x y : Number) (at len : ℕ) → EndsWithin at len x → EndsWithin at len y → EndsWithin at len (cond b x y)
+cond-ends true x y at len p q = p
+cond-ends false x y at len p q = q
 
-followed-ends : (low at len : ℕ) (r : Number) → Ends (at + 1) len r → Ends at len (followed low r)
+followed-ends : (low at len : ℕ) (r : Number) → EndsWithin (at + 1) len r → EndsWithin at len (followed low r)
 unfolding followed
-followed-ends low at len (Value v next) h = pick-ends (eqb v 0) (Refused 2) (Value (low + v * 128) next) at len tt (omega arith, h .1)
+followed-ends low at len (Value v next) h = cond-ends (eqb v 0) (Refused 2) (Value (low + v * 128) next) at len tt (omega arith, h .1)
 followed-ends low at len (Refused k) h = tt
 
-pub ends : (g : ℕ) (s : List ℕ) (at : ℕ) → Ends at (length s) (numberIn g s at)
+pub ends : (g : ℕ) (s : List ℕ) (at : ℕ) → EndsWithin at (length s) (numberIn g s at)
 unfolding numberIn group
 ends zero s at = tt
 ends (suc g) s at = go (ends g s (at + 1)) (ltb at (length s)) refl
   where
     rest : Number
-    rest = pick (ltb (getD s at 0) 128) (Value (getD s at 0) (at + 1)) (followed (getD s at 0 % 128) (numberIn g s (at + 1)))
+    rest = cond (ltb (getD s at 0) 128) (Value (getD s at 0) (at + 1)) (followed (getD s at 0 % 128) (numberIn g s (at + 1)))
 
-    go : Ends (at + 1) (length s) (numberIn g s (at + 1)) → (b : Bool) → ltb at (length s) ≡ b → Ends at (length s) (pick b rest (Refused 1))
+    go : EndsWithin (at + 1) (length s) (numberIn g s (at + 1)) → (b : Bool) → ltb at (length s) ≡ b → EndsWithin at (length s) (cond b rest (Refused 1))
     go ih true e =
         let h = ltb-true at (length s) e in
-        pick-ends (ltb (getD s at 0) 128) (Value (getD s at 0) (at + 1)) (followed (getD s at 0 % 128) (numberIn g s (at + 1))) at (length s) (omega arith) (followed-ends (getD s at 0 % 128) at (length s) (numberIn g s (at + 1)) ih)
+        cond-ends (ltb (getD s at 0) 128) (Value (getD s at 0) (at + 1)) (followed (getD s at 0 % 128) (numberIn g s (at + 1))) at (length s) (omega arith) (followed-ends (getD s at 0 % 128) at (length s) (numberIn g s (at + 1)) ih)
     go ih false e = tt
 
 -- for a caller: what a value that was read is
@@ -100,5 +110,5 @@ pub value : (s : List ℕ) (at v next : ℕ) → Value v next ≡ numberAt s at 
 unfolding numberIn
 value s at v next e =
     let b : Below 268435456 (Value v next) = subst (Below 268435456) (sym e) (group-below s at 2097152 (numberIn 3 s (at + 1)) (omega arith) (three 3 s (at + 1) (omega arith))) in
-    let w : Ends at (length s) (Value v next) = subst (Ends at (length s)) (sym e) (ends 4 s at) in
+    let w : EndsWithin at (length s) (Value v next) = subst (EndsWithin at (length s)) (sym e) (ends 4 s at) in
     (b, w .0, w .1)

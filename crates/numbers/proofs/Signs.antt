@@ -57,7 +57,7 @@ is-pos (negsuc n) f t = absurd (not-true-false (test (negsuc n) f false t))
 pub passed : (z : ℤ) → mag z < 2147483648 → toZ w32 (ofZ w32 z) ≡ z
 passed z h = toZ-ofZ w32 z (record { sfits = h })
 
--- each way undoes the other
+-- THEOREM: what a number of the file decodes to is written as that number
 pub encoded-decoded : (u : ℕ) → encoded (decoded u) ≡ u
 encoded-decoded u = go (eqb (u % 2) 1) refl
   where
@@ -77,13 +77,15 @@ even-test n = ne-eqb (n * 2 % 2) 1 (omega arith)
 odd-test : (n : ℕ) → eqb ((n * 2 + 1) % 2) 1 ≡ true
 odd-test n = eq-eqb ((n * 2 + 1) % 2) 1 (omega arith)
 
+-- THEOREM: what a value is written as decodes to that value
 pub decoded-encoded : (v : ℤ) → decoded (encoded v) ≡ v
 decoded-encoded (pos n) = rw (even-test n, even-half n)
 decoded-encoded (negsuc n) = rw (odd-test n, odd-half n)
 
--- the ends of 01's range are exact
+-- THEOREM: -1,000,000 is written as 1,999,999
 pub low-end : encoded (negsuc 999999) ≡ 1999999
 low-end = refl
 
+-- THEOREM: 1,000,000 is written as 2,000,000
 pub high-end : encoded (pos 1000000) ≡ 2000000
 high-end = refl

@@ -1,7 +1,7 @@
 -- Both ways between a number and its bytes: what `groups v` wrote is read as v wherever it stands, and a number that was read stands as the groups of its value.
 -- So no two byte strings at a place are the same number.
 use mathlib.Core.Path.{_≡_, refl, sym, ap, ap₂, _∙_}
-use mathlib.Core.Bool.{Bool, true, false}
+use mathlib.Core.Bool.{Bool, true, false, cond}
 use mathlib.Core.List.{List, _∷_, _++_}
 use Prim.Native.Nat.{ℕ, zero, suc, _+_, _-_, _*_, _/_, _%_, _≤_, _<_}
 use native.Mathlib.Omega.{arith}
@@ -12,7 +12,7 @@ use borrow.Author.Tests.{ltb-true, ltb-false, eqb-false, ne-eqb}
 use lib.Dec.{ltb, eqb}
 use lib.ListN.{length, getD, drop, length-drop}
 use lib.Seq.{drop-cons, drop-drop, getD-drop}
-use Rattle.numbers.specs.Groups.{pick, followed, group, numberIn, numberAt, grouped, groups}
+use Rattle.numbers.specs.Groups.{followed, group, numberIn, numberAt, grouped, groups, Bytes, Spans}
 use Rattle.numbers.specs.declared.Number.{Number}
 use Rattle.numbers.specs.declared.Number.the-variants.{Value, Refused}
 use Rattle.numbers.proofs.Reading.{group-one, group-more}
@@ -69,24 +69,17 @@ read-grouped (suc g) v file at rest f e = elim (decLt v 128) [
     sum : (x y : ℕ) → x + 1 + y ≡ x + suc y
     sum x y = omega arith
 
+-- THEOREM: the groups of a number, wherever they stand in a file, are read as that number
 pub read-groups : (v : ℕ) (file : List ℕ) (at : ℕ) (rest : List ℕ) → v < 268435456 → drop at file ≡ groups v ++ rest → numberAt file at ≡ Value v (at + length (groups v))
 read-groups v file at rest h e = read-grouped 4 v file at rest (four v h) e
 
 -- ---- what was read is written
--- a file is made of bytes
-abbrev pub Bytes : List ℕ → Type 0
-Bytes file = (i : ℕ) → getD file i 0 < 256
-
-pub record Stands (file : List ℕ) (at : ℕ) (bytes : List ℕ) (next : ℕ) : Type 0 where
-  pub here : drop at file ≡ bytes ++ drop next file
-  pub ends : next ≡ at + length bytes
-
 never : (k v next : ℕ) → Refused k ≡ Value v next → ⊥
 never k v next e = let z : _≡_ {A = ℕ} 0 1 = cc in omega arith
 
 -- a last group
-stands-one : (g : ℕ) (file : List ℕ) (at v next : ℕ) → at < length file → getD file at 0 < 128 → Value (getD file at 0) (at + 1) ≡ Value v next → Stands file at (grouped (suc g) v) next
-stands-one g file at v next h l e =
+spans-one : (g : ℕ) (file : List ℕ) (at v next : ℕ) → at < length file → getD file at 0 < 128 → Value (getD file at 0) (at + 1) ≡ Value v next → Spans file at (grouped (suc g) v) next
+spans-one g file at v next h l e =
     let a : getD file at 0 ≡ v = cc in
     let b : at + 1 ≡ next = cc in
     let q = grouped-one (suc g) v (λ z. omega arith) (omega arith) in
@@ -96,9 +89,9 @@ stands-one g file at v next h l e =
     })
 
 -- a group with others after it, whose number is w
-stands-more : (g : ℕ) (file : List ℕ) (at w e v next : ℕ) → at < length file → 128 ≤ getD file at 0 → getD file at 0 < 256 → (w ≡ 0 → ⊥) → Stands file (at + 1) (grouped g w) e → Value (getD file at 0 % 128 + w * 128) e ≡ Value v next
-    → Stands file at (grouped (suc g) v) next
-stands-more g file at w e v next h l f z s q =
+spans-more : (g : ℕ) (file : List ℕ) (at w e v next : ℕ) → at < length file → 128 ≤ getD file at 0 → getD file at 0 < 256 → (w ≡ 0 → ⊥) → Spans file (at + 1) (grouped g w) e → Value (getD file at 0 % 128 + w * 128) e ≡ Value v next
+    → Spans file at (grouped (suc g) v) next
+spans-more g file at w e v next h l f z s q =
     let byte = getD file at 0 in
     let a : getD file at 0 % 128 + w * 128 ≡ v = cc in
     let b : e ≡ next = cc in
@@ -111,30 +104,31 @@ stands-more g file at w e v next h l f z s q =
     })
 
 followed-value : (g : ℕ) (file : List ℕ) (at v next : ℕ) (x : Number) → at < length file → 128 ≤ getD file at 0 → getD file at 0 < 256
-    → ((w e : ℕ) → x ≡ Value w e → Stands file (at + 1) (grouped g w) e) → followed (getD file at 0 % 128) x ≡ Value v next → Stands file at (grouped (suc g) v) next
+    → ((w e : ℕ) → x ≡ Value w e → Spans file (at + 1) (grouped g w) e) → followed (getD file at 0 % 128) x ≡ Value v next → Spans file at (grouped (suc g) v) next
 unfolding followed
 followed-value g file at v next (Refused k) h l f i q = absurd (never k v next q)
 followed-value g file at v next (Value w e) h l f i q = cases (eqb w 0) refl q
   where
-    cases : (b : Bool) → eqb w 0 ≡ b → pick b (Refused 2) (Value (getD file at 0 % 128 + w * 128) e) ≡ Value v next → Stands file at (grouped (suc g) v) next
+    cases : (b : Bool) → eqb w 0 ≡ b → cond b (Refused 2) (Value (getD file at 0 % 128 + w * 128) e) ≡ Value v next → Spans file at (grouped (suc g) v) next
     cases true z q = absurd (never 2 v next q)
-    cases false z q = stands-more g file at w e v next h l f (eqb-false w 0 z) (i w e refl) q
+    cases false z q = spans-more g file at w e v next h l f (eqb-false w 0 z) (i w e refl) q
 
-grouped-read : (g : ℕ) (file : List ℕ) (at v next : ℕ) → Bytes file → numberIn g file at ≡ Value v next → Stands file at (grouped g v) next
+grouped-read : (g : ℕ) (file : List ℕ) (at v next : ℕ) → Bytes file → numberIn g file at ≡ Value v next → Spans file at (grouped g v) next
 unfolding numberIn group
 grouped-read zero file at v next f e = absurd (never 2 v next e)
 grouped-read (suc g) file at v next f e = inside (λ w n i. grouped-read g file (at + 1) w n f i) (ltb at (length file)) refl e
   where
     Before : Type 0
-    Before = (w n : ℕ) → numberIn g file (at + 1) ≡ Value w n → Stands file (at + 1) (grouped g w) n
+    Before = (w n : ℕ) → numberIn g file (at + 1) ≡ Value w n → Spans file (at + 1) (grouped g w) n
 
-    small : Before → at < length file → (b : Bool) → ltb (getD file at 0) 128 ≡ b → pick b (Value (getD file at 0) (at + 1)) (followed (getD file at 0 % 128) (numberIn g file (at + 1))) ≡ Value v next → Stands file at (grouped (suc g) v) next
-    small i h true l q = stands-one g file at v next h (ltb-true _ _ l) q
+    small : Before → at < length file → (b : Bool) → ltb (getD file at 0) 128 ≡ b → cond b (Value (getD file at 0) (at + 1)) (followed (getD file at 0 % 128) (numberIn g file (at + 1))) ≡ Value v next → Spans file at (grouped (suc g) v) next
+    small i h true l q = spans-one g file at v next h (ltb-true _ _ l) q
     small i h false l q = followed-value g file at v next (numberIn g file (at + 1)) h (ltb-false _ _ l) (f at) i q
 
-    inside : Before → (b : Bool) → ltb at (length file) ≡ b → pick b (pick (ltb (getD file at 0) 128) (Value (getD file at 0) (at + 1)) (followed (getD file at 0 % 128) (numberIn g file (at + 1)))) (Refused 1) ≡ Value v next → Stands file at (grouped (suc g) v) next
+    inside : Before → (b : Bool) → ltb at (length file) ≡ b → cond b (cond (ltb (getD file at 0) 128) (Value (getD file at 0) (at + 1)) (followed (getD file at 0 % 128) (numberIn g file (at + 1)))) (Refused 1) ≡ Value v next → Spans file at (grouped (suc g) v) next
     inside i true h q = small i (ltb-true _ _ h) (ltb (getD file at 0) 128) refl q
     inside i false h q = absurd (never 1 v next q)
 
-pub groups-read : (file : List ℕ) (at v next : ℕ) → Bytes file → numberAt file at ≡ Value v next → Stands file at (groups v) next
+-- THEOREM: a number that was read stands in the file as the groups of its value
+pub groups-read : (file : List ℕ) (at v next : ℕ) → Bytes file → numberAt file at ≡ Value v next → Spans file at (groups v) next
 groups-read file at v next f e = grouped-read 4 file at v next f e

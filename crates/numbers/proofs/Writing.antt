@@ -1,6 +1,6 @@
 -- The groups of a number, written one after the other.
 use mathlib.Core.Path.{_≡_, refl, ap, _∙_}
-use mathlib.Core.Bool.{Bool, true, false}
+use mathlib.Core.Bool.{Bool, true, false, cond}
 use mathlib.Core.List.{List, [], _∷_}
 use Prim.Native.Nat.{ℕ, zero, suc, _+_, _-_, _/_, _%_, _≤_, _<_}
 use native.Mathlib.Omega.{arith}
@@ -10,7 +10,7 @@ use borrow.Author.Tests.{lt-ltb, le-ltb}
 use lib.Dec.{ltb}
 use lib.ListN.{length, set, length-set}
 use lib.Seq.{sets, set-out}
-use Rattle.numbers.specs.Groups.{pick, grouped, groups}
+use Rattle.numbers.specs.Groups.{grouped, groups}
 
 -- what stands past the end is not written
 pub sets-out : {A : Type 0} (l : List A) (i : ℕ) (vs : List A) → length l ≤ i → sets l i vs ≡ l
@@ -18,10 +18,10 @@ sets-out l i [] h = refl
 sets-out l i (v ∷ vs) h = sets-out (set l i v) (suc i) vs (omega (arith, length-set l i v)) ∙ set-out l i v h
 
 -- grouped at a count that is not 0, as the code counts
-unroll : (g v : ℕ) → (g ≡ 0 → ⊥) → grouped g v ≡ pick (ltb v 128) (v ∷ []) ((v % 128 + 128) ∷ grouped (g - 1) (v / 128))
+unroll : (g v : ℕ) → (g ≡ 0 → ⊥) → grouped g v ≡ cond (ltb v 128) (v ∷ []) ((v % 128 + 128) ∷ grouped (g - 1) (v / 128))
 unfolding grouped
 unroll zero v h = absurd (h refl)
-unroll (suc g) v h = ap (λ (k : ℕ). pick (ltb v 128) (v ∷ []) ((v % 128 + 128) ∷ grouped k (v / 128))) (less g)
+unroll (suc g) v h = ap (λ (k : ℕ). cond (ltb v 128) (v ∷ []) ((v % 128 + 128) ∷ grouped k (v / 128))) (less g)
   where
     less : (g : ℕ) → g ≡ suc g - 1
     less g = omega arith
@@ -46,7 +46,7 @@ single : (w : ℕ) → 1 ≡ length (grouped 1 w)
 unfolding grouped
 single w = go (ltb w 128)
   where
-    go : (b : Bool) → 1 ≡ length (pick b (w ∷ []) ((w % 128 + 128) ∷ []))
+    go : (b : Bool) → 1 ≡ length (cond b (w ∷ []) ((w % 128 + 128) ∷ []))
     go true = refl
     go false = refl
 

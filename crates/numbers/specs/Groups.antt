@@ -1,29 +1,26 @@
 -- A number of the sheet file (document 01, "The sheet file"):
 -- "All numbers are in groups of seven bits, lowest group first, top bit of a byte set when another follows; at most four groups;
 -- the last is not zero unless it is the only one."
-use Prim.Native.Nat.{ℕ, zero, suc, _+_, _*_, _/_, _%_}
-use mathlib.Core.Bool.{Bool, true, false}
-use mathlib.Core.List.{List, [], _∷_}
+use Prim.Native.Nat.{ℕ, zero, suc, _+_, _*_, _/_, _%_, _<_}
+use mathlib.Core.Path.{_≡_}
+use mathlib.Core.Bool.{cond}
+use mathlib.Core.List.{List, [], _∷_, _++_}
 use lib.Dec.{ltb, eqb}
-use lib.ListN.{length, getD}
+use lib.ListN.{length, getD, drop}
 use Rattle.numbers.specs.declared.Number.{Number}
 use Rattle.numbers.specs.declared.Number.the-variants.{Value, Refused}
-
-abbrev pub pick : {A : Type 0} → Bool → A → A → A
-pick true a b = a
-pick false a b = b
 
 -- "top bit of a byte set when another follows": a group with the number `rest` after it.
 -- A rest of 0 is a last group of zero: 2, "number not shortest".
 unfoldable pub followed : ℕ → Number → Number
-followed low (Value v next) = pick (eqb v 0) (Refused 2) (Value (low + v * 128) next)
+followed low (Value v next) = cond (eqb v 0) (Refused 2) (Value (low + v * 128) next)
 followed low (Refused k) = Refused k
 
 -- the number at a place, where `rest` is the number at the next place: 1, "file stops before the sheet is complete"
 unfoldable pub group : List ℕ → ℕ → Number → Number
 group file at rest =
-    pick (ltb at (length file))
-    (pick (ltb (getD file at 0) 128) (Value (getD file at 0) (at + 1)) (followed (getD file at 0 % 128) rest))
+    cond (ltb at (length file))
+    (cond (ltb (getD file at 0) 128) (Value (getD file at 0) (at + 1)) (followed (getD file at 0 % 128) rest))
     (Refused 1)
 
 -- the number at a place, in at most so many groups: 2, "a fourth group marked as followed"
@@ -38,8 +35,17 @@ numberAt file at = numberIn 4 file at
 -- the groups of a number, at most so many
 unfoldable pub grouped : ℕ → ℕ → List ℕ
 grouped zero v = []
-grouped (suc left) v = pick (ltb v 128) (v ∷ []) ((v % 128 + 128) ∷ grouped left (v / 128))
+grouped (suc left) v = cond (ltb v 128) (v ∷ []) ((v % 128 + 128) ∷ grouped left (v / 128))
 
 -- the bytes of a number
 abbrev pub groups : ℕ → List ℕ
 groups v = grouped 4 v
+
+-- a file is a list of bytes
+abbrev pub Bytes : List ℕ → Type 0
+Bytes file = (i : ℕ) → getD file i 0 < 256
+
+-- these bytes stand in the file from a place up to the next
+pub record Spans (file : List ℕ) (at : ℕ) (bytes : List ℕ) (next : ℕ) : Type 0 where
+  pub here : drop at file ≡ bytes ++ drop next file
+  pub ends : next ≡ at + length bytes

@@ -17,7 +17,8 @@ pub enum Number {
 
 const GROUPS: usize = 4;
 
-fn wide(byte: u8) -> usize
+// A byte as a number of the machine's width.
+pub fn wide(byte: u8) -> usize
     ensures { λ r. ⌜ r ≡ byte ⌝ }
 {
     byte as usize
@@ -71,6 +72,7 @@ pub fn number_at(file: &[u8], at: usize) -> Number
     number_in(file, at, GROUPS)
 }
 
+// A number below 256 as a byte.
 fn narrow(value: usize) -> u8
     requires { ⌜ value < 256 ⌝ }
     ensures { λ r. ⌜ r ≡ value ⌝ }

@@ -3,9 +3,17 @@
 use answers::Answered;
 use answers::give;
 use report::Told;
+ghost use mathlib.Core.Path.{_≡_};
 ghost use Rattle.tables.specs.Sheets.{sheet};
+ghost use Rattle.sheet.specs.File.{sheetIn};
+ghost use Rattle.reader.specs.Answers.{reading, readOf};
+ghost use Rattle.writer.specs.Answers.{writing, writeOf};
+ghost use Rattle.calls.specs.Ask as ask;
+ghost use Rattle.calls.specs.Ends as ends;
+ghost use Rattle.report.specs.Report as report;
+ghost use Rattle.report.specs.Told.{answerTold};
 ghost use Rattle.answers.specs.Answers.{Given};
-ghost use Rattle.probe.specs.Probes.{ReadProbed, WriteProbed, AskProbed, EndsProbed, answerTold, ReportProbed};
+ghost use Rattle.probe.specs.Probes.{Probed};
 
 // The report's answer in numbers.
 fn of_told(told: Told) -> Answered
@@ -15,7 +23,7 @@ fn of_told(told: Told) -> Answered
         Told::Written { length } => Answered {
             number: 0,
             count: 1,
-            values: [answers::wide(length), 0, 0, 0, 0, 0, 0, 0],
+            values: [answers::as_value(length), 0, 0, 0, 0, 0, 0, 0],
         },
         Told::Refused { number } => Answered {
             number: answers::answer(number),
@@ -33,7 +41,7 @@ pub extern "C" fn probe_read(
     schedule: &mut [u8],
     values: &mut [u64],
 ) -> u32
-    ensures { λ r. ⌜ ReadProbed (now (file .entry)) (now (tables .entry)) (now (schedule .entry)) (now (values .entry)) r (now (tables .exit)) (now (schedule .exit)) (now (values .exit)) ⌝ }
+    ensures { λ r. ⌜ Probed (λ a. reading a (now (tables .exit)) (now (schedule .exit)) ≡ readOf (sheetIn (now (file .entry))) (now (tables .entry)) (now (schedule .entry))) (now (values .entry)) r (now (values .exit)) ⌝ }
 {
     let a = answers::of_read(reader::read_sheet(file, tables, schedule));
     give(values, a)
@@ -50,7 +58,7 @@ pub extern "C" fn probe_write(
     out: &mut [u8],
     values: &mut [u64],
 ) -> u32
-    ensures { λ r. ⌜ WriteProbed (sheet n m positions (now (tables .entry)) (now (schedule .entry))) (now (out .entry)) (now (values .entry)) r (now (out .exit)) (now (values .exit)) ⌝ }
+    ensures { λ r. ⌜ Probed (λ a. writing a (now (out .exit)) ≡ writeOf (sheet n m positions (now (tables .entry)) (now (schedule .entry))) (now (out .entry))) (now (values .entry)) r (now (values .exit)) ⌝ }
 {
     let a = answers::of_written(writer::write_sheet(n, m, positions, tables, schedule, out));
     give(values, a)
@@ -70,14 +78,13 @@ pub extern "C" fn probe_ask(
     circuit: &mut [u8],
     values: &mut [u64],
 ) -> u32
-    ensures { λ r. ⌜ AskProbed (sheet n m positions (now (tables .entry)) (now (schedule .entry))) p q (now (plan .entry)) (now (circuit .entry)) (now (values .entry)) r (now (plan .exit)) (now (circuit .exit)) (now (values .exit)) ⌝ }
+    ensures { λ r. ⌜ Probed (λ a. ask.Outcome (sheet n m positions (now (tables .entry)) (now (schedule .entry))) p q (now (plan .entry)) (now (circuit .entry)) a (now (plan .exit)) (now (circuit .exit))) (now (values .entry)) r (now (values .exit)) ⌝ }
 {
     let a = answers::of_asked(ask::ask(n, m, positions, tables, schedule, p, q, plan, circuit));
     give(values, a)
 }
 
-// Ends: 0 with low's top and bottom, 1 where there is a high and 0 where it is open, high's top and bottom, and the two arc counts; 101 with the
-// two arc counts; or the number of the refusal.
+// Ends: 0 with low's top and bottom, high's where it is not open, and the two arc counts; 101 with the two arc counts; or the number of the refusal.
 #[no_mangle]
 pub extern "C" fn probe_ends(
     n: usize,
@@ -89,7 +96,7 @@ pub extern "C" fn probe_ends(
     second: &mut [u8],
     values: &mut [u64],
 ) -> u32
-    ensures { λ r. ⌜ EndsProbed (sheet n m positions (now (tables .entry)) (now (schedule .entry))) (now (first .entry)) (now (second .entry)) (now (values .entry)) r (now (first .exit)) (now (second .exit)) (now (values .exit)) ⌝ }
+    ensures { λ r. ⌜ Probed (λ a. ends.Outcome (sheet n m positions (now (tables .entry)) (now (schedule .entry))) (now (first .entry)) (now (second .entry)) a (now (first .exit)) (now (second .exit))) (now (values .entry)) r (now (values .exit)) ⌝ }
 {
     let a = answers::of_ended(ends::ends(n, m, positions, tables, schedule, first, second));
     give(values, a)
@@ -98,7 +105,7 @@ pub extern "C" fn probe_ends(
 // The report: 0 with the text's length, or the number of the refusal.
 #[no_mangle]
 pub extern "C" fn probe_report(file: &[u8], out: &mut [u8], values: &mut [u64]) -> u32
-    ensures { λ r. ⌜ ReportProbed (now (file .entry)) (now (out .entry)) (now (values .entry)) r (now (out .exit)) (now (values .exit)) ⌝ }
+    ensures { λ r. ⌜ Probed (λ a. report.Outcome (now (file .entry)) (now (out .entry)) a (now (out .exit))) (now (values .entry)) r (now (values .exit)) ⌝ }
 {
     let a = of_told(report::report(file, out));
     give(values, a)

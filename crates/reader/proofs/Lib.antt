@@ -3,5 +3,5 @@ pub mod Schedules
 pub mod Filling
 pub mod Outcomes
 -- what a caller has
-pub mod Leaves
 pub mod Trips
+pub mod Leaves

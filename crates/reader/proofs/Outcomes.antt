@@ -7,7 +7,7 @@ use lib.IntN.{ℤ}
 use lib.ListN.{length}
 use Rattle.tables.specs.Sheets.{Sheet, places}
 use Rattle.sheet.specs.File.{got, refused, sheetIn}
-use Rattle.sheet.specs.Answers.{Answer}
+use Rattle.tables.specs.Answers.{Answer}
 use Rattle.sheet.proofs.Sets.{front}
 use Rattle.sheet.proofs.Sheets.{sheeted}
 use Rattle.reader.specs.Answers.{answerRead, Reading, Reads}
@@ -41,7 +41,7 @@ answer-read (read.Done n m v) (read.Refused k) e = let q : n ∷ m ∷ v ∷ [] 
 answer-read (read.Refused k) (read.Done n m v) e = let q : [] ≡ n ∷ m ∷ v ∷ [] = ap (λ (t : Answer). t .values) e in cc
 answer-read (read.Refused j) (read.Refused k) e = ap read.Refused (ap (λ (t : Answer). t .number) e)
 
--- two outcomes of reading that meet the relation are equal
+-- THEOREM: two outcomes of reading the same bytes are equal: the answer and both buffers
 pub reads-unique : (file : List ℕ) (t₀ : List ℤ) (s₀ : List ℕ) (a b : Read) (t u : List ℤ) (v w : List ℕ) → Reads file t₀ s₀ a t v → Reads file t₀ s₀ b u w → (a ≡ b) × (t ≡ u) × (v ≡ w)
 reads-unique file t₀ s₀ a b t u v w p q =
     let e = p ∙ sym q in (answer-read a b (ap (λ (r : Reading). r .answer) e), ap (λ (r : Reading). r .tables) e, ap (λ (r : Reading). r .schedule) e)

@@ -1,6 +1,6 @@
 -- What was read is written, as a caller sees it: what the reader answered and left, handed to the writer; and what a refusal says.
 use mathlib.Core.Path.{_≡_, refl, sym, ap, ap₂, _∙_}
-use mathlib.Core.Bool.{Bool, true, false, _&&_}
+use mathlib.Core.Bool.{Bool, true, false, cond, _&&_}
 use mathlib.Core.List.{List, [], _∷_, _++_}
 use Prim.Native.Nat.{ℕ, _≤_}
 use native.Mathlib.Omega.{arith}
@@ -8,8 +8,7 @@ use borrow.Author.Tests.{le-leb}
 use lib.IntN.{ℤ}
 use lib.Dec.{leb}
 use lib.ListN.{length, drop}
-use Rattle.numbers.specs.Groups.{pick}
-use Rattle.numbers.proofs.Ways.{Bytes}
+use Rattle.numbers.specs.Groups.{Bytes}
 use Rattle.tables.specs.Sheets.{Sheet, sheet, places, refusal}
 use Rattle.tables.proofs.Laws.{few-places}
 use Rattle.sheet.proofs.Answers.{filled}
@@ -36,7 +35,7 @@ done-read file t₀ v₀ n m positions t v e = part (sheetIn file) refl e
   where
     room : (s : Sheet) (next : ℕ) → sheetIn file ≡ got s next → (b : Bool)
         → reading (record { number = 0; values = n ∷ m ∷ positions ∷ [] }) t v
-        ≡ pick b (reading (record { number = 0; values = s .n ∷ s .m ∷ s .positions ∷ [] }) (s .tables ++ drop (places (s .n) (s .m)) t₀) (s .schedule ++ drop (s .positions) v₀)) (unread 9 t₀ v₀)
+        ≡ cond b (reading (record { number = 0; values = s .n ∷ s .m ∷ s .positions ∷ [] }) (s .tables ++ drop (places (s .n) (s .m)) t₀) (s .schedule ++ drop (s .positions) v₀)) (unread 9 t₀ v₀)
         → DoneRead file t₀ v₀ n m positions t v
     room s next h true e =
         let q : n ∷ m ∷ positions ∷ [] ≡ s .n ∷ s .m ∷ s .positions ∷ [] = ap (λ (r : Reading). r .answer .values) e in
@@ -60,7 +59,7 @@ done-read file t₀ v₀ n m positions t v e = part (sheetIn file) refl e
     part (got s next) h e = room s next h (leb (places (s .n) (s .m)) (length t₀) && leb (s .positions) (length v₀)) e
     part (refused k) h e = absurd (filled n (m ∷ positions ∷ []) (ap (λ (r : Reading). r .answer .values) e))
 
--- writing what was read gives the same bytes, and is not refused
+-- THEOREM: what the reader left is admitted, and writing it gives the same bytes
 pub write-back : (file : List ℕ) (t₀ : List ℤ) (v₀ : List ℕ) (n m positions : ℕ) (t : List ℤ) (v : List ℕ) → Bytes file → Reads file t₀ v₀ (read.Done n m positions) t v
     → (refusal (sheet n m positions t v) ≡ 0) × (written (sheet n m positions t v) ≡ file)
 write-back file t₀ v₀ n m positions t v f e =
@@ -73,13 +72,13 @@ write-back file t₀ v₀ n m positions t v f e =
     (ap refusal q ∙ a, ap written q ∙ w)
 
 -- ---- what a refusal says
--- it alters nothing lent
+-- THEOREM: it alters nothing lent
 pub refused-read : (file : List ℕ) (t₀ : List ℤ) (v₀ : List ℕ) (k : ℕ) (t : List ℤ) (v : List ℕ) → Reads file t₀ v₀ (read.Refused k) t v → (t ≡ t₀) × (v ≡ v₀)
 refused-read file t₀ v₀ k t v e = part (sheetIn file) e
   where
     room : (s : Sheet) (b : Bool)
         → reading (record { number = k; values = [] }) t v
-        ≡ pick b (reading (record { number = 0; values = s .n ∷ s .m ∷ s .positions ∷ [] }) (s .tables ++ drop (places (s .n) (s .m)) t₀) (s .schedule ++ drop (s .positions) v₀)) (unread 9 t₀ v₀) → (t ≡ t₀) × (v ≡ v₀)
+        ≡ cond b (reading (record { number = 0; values = s .n ∷ s .m ∷ s .positions ∷ [] }) (s .tables ++ drop (places (s .n) (s .m)) t₀) (s .schedule ++ drop (s .positions) v₀)) (unread 9 t₀ v₀) → (t ≡ t₀) × (v ≡ v₀)
     room s true e = absurd (filled (s .n) (s .m ∷ s .positions ∷ []) (sym (ap (λ (r : Reading). r .answer .values) e)))
     room s false e = (ap (λ (r : Reading). r .tables) e, ap (λ (r : Reading). r .schedule) e)
 
@@ -87,7 +86,7 @@ refused-read file t₀ v₀ k t v e = part (sheetIn file) e
     part (got s next) e = room s (leb (places (s .n) (s .m)) (length t₀) && leb (s .positions) (length v₀)) e
     part (refused j) e = (ap (λ (r : Reading). r .tables) e, ap (λ (r : Reading). r .schedule) e)
 
--- with room for the largest sheet it is the file's own
+-- THEOREM: with room for the largest sheet it is the file's own
 pub refused-file : (file : List ℕ) (t₀ : List ℤ) (v₀ : List ℕ) (k : ℕ) (t : List ℤ) (v : List ℕ) → 4608 ≤ length t₀ → 16 ≤ length v₀ → Reads file t₀ v₀ (read.Refused k) t v → sheetIn file ≡ refused k
 refused-file file t₀ v₀ k t v a b e = part (sheetIn file) refl e
   where

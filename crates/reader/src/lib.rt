@@ -38,9 +38,6 @@ enum Head {
     },
 }
 
-// "format number 1".
-const FORMAT: usize = 1;
-
 // Puts a byte at a position of the schedule, if it reaches that far.
 fn put_byte(schedule: &mut [u8], position: usize, mode: usize)
     requires { ⌜ mode < 256 ⌝ }
@@ -75,7 +72,7 @@ fn read_schedule(file: &[u8], m: usize, positions: usize, at: usize, schedule: &
 fn read_head(file: &[u8]) -> Head
     ensures { λ r. ⌜ headPart r ≡ countsAt (now (file .entry)) 0 ⌝ }
 {
-    let first = records::number_within(file, 0, FORMAT, FORMAT, 3);
+    let first = records::number_within(file, 0, sheet::FORMAT, sheet::FORMAT, 3);
     let Number::Value { value: _, next: a } = first else {
         return Head::Refused {
             number: records::refusal(first),

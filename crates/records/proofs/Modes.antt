@@ -8,7 +8,7 @@ use lib.IntN.{ℤ}
 use lib.ListN.{length, set, replicate, length-set, length-replicate}
 use lib.Seq.{sets}
 use Rattle.tables.specs.Sheets.{noWindow}
-use Rattle.sheet.specs.File.{Part, got, refused, andThen, Window, windowsAt, modeAt, modesAt, put, laid, tablesOf}
+use Rattle.sheet.specs.File.{Part, got, refused, andThen, Placed, recordsAt, modeAt, modesAt, put, laid, tablesOf}
 use Rattle.sheet.proofs.Counting.{one, none}
 use Rattle.sheet.proofs.Following.{then-value, then-refused}
 use Rattle.sheet.proofs.Windows.{Good, good, length-laid}
@@ -20,7 +20,7 @@ use Rattle.records.proofs.Walking.{grow, stopped}
 use Rattle.records.proofs.Records.{store}
 
 -- windows put into a part that was cleared
-put-sets : (windows : List Window) (xs part : List ℤ) (size low : ℕ) → length xs ≡ size → Good size low windows → put windows (sets part 0 xs) ≡ sets part 0 (put windows xs)
+put-sets : (windows : List Placed) (xs part : List ℤ) (size low : ℕ) → length xs ≡ size → Good size low windows → put windows (sets part 0 xs) ≡ sets part 0 (put windows xs)
 unfolding put Good
 put-sets [] xs part size low e g = refl
 put-sets (w ∷ rest) xs part size low e g =
@@ -31,18 +31,18 @@ put-sets (w ∷ rest) xs part size low e g =
     zero-add k = omega arith
 
 -- what is put into the part of one mode, and into the tables from a place on
-abbrev pub storeMode : ℕ → List ℤ → List Window → List ℤ
+abbrev pub storeMode : ℕ → List ℤ → List Placed → List ℤ
 storeMode n was windows = sets was 0 (laid (4 * (n * n)) windows)
 
-abbrev pub storeFrom : ℕ → ℕ → List ℤ → List (List Window) → List ℤ
+abbrev pub storeFrom : ℕ → ℕ → List ℤ → List (List Placed) → List ℤ
 storeFrom n base was modes = sets was base (tablesOf n modes)
 
 pub mode-walks : (file : List ℕ) (n count at : ℕ) (part : List ℤ) (r : Ending) (now : List ℤ)
-    → Walks store (windowsAt file n count 0 at) (sets part 0 (replicate (4 * (n * n)) noWindow)) r now → Walks (storeMode n) (windowsAt file n count 0 at) part r now
+    → Walks store (recordsAt file n count 0 at) (sets part 0 (replicate (4 * (n * n)) noWindow)) r now → Walks (storeMode n) (recordsAt file n count 0 at) part r now
 unfolding Walks laid
-mode-walks file n count at part r now h = cases (windowsAt file n count 0 at) refl h
+mode-walks file n count at part r now h = cases (recordsAt file n count 0 at) refl h
   where
-    cases : (x : Part (List Window)) → windowsAt file n count 0 at ≡ x → Walks store x (sets part 0 (replicate (4 * (n * n)) noWindow)) r now → Walks (storeMode n) x part r now
+    cases : (x : Part (List Placed)) → recordsAt file n count 0 at ≡ x → Walks store x (sets part 0 (replicate (4 * (n * n)) noWindow)) r now → Walks (storeMode n) x part r now
     cases (got windows next) e h = (h .0, h .1 ∙ put-sets windows (replicate (4 * (n * n)) noWindow) part (4 * (n * n)) 0 (length-replicate (4 * (n * n)) noWindow) (good file n count 0 at windows next e))
     cases (refused k) e h = h
 
@@ -52,7 +52,7 @@ unfolding modesAt
 unroll file n m t p h = ap (λ (k : ℕ). modesAt file n k p) (one m t h)
 
 module _ (file : List ℕ) (n m t p : ℕ) (tables : List ℤ) where
-  pub mode-next : t < m → (windows : List Window) (a : ℕ) → modeAt file n p ≡ got windows a → (after : List ℤ) → after ≡ sets tables (t * (4 * (n * n))) (laid (4 * (n * n)) windows)
+  pub mode-next : t < m → (windows : List Placed) (a : ℕ) → modeAt file n p ≡ got windows a → (after : List ℤ) → after ≡ sets tables (t * (4 * (n * n))) (laid (4 * (n * n)) windows)
       → (r : Ending) (now : List ℤ) → Walks (storeFrom n ((t + 1) * (4 * (n * n)))) (modesAt file n (m - (t + 1)) a) after r now → Walks (storeFrom n (t * (4 * (n * n)))) (modesAt file n (m - t) p) tables r now
   unfolding tablesOf
   mode-next h windows a e after q r now g =

@@ -7,7 +7,7 @@ use lib.IntN.{ℤ}
 use lib.ListN.{set, replicate}
 use lib.Seq.{sets}
 use Rattle.tables.specs.Sheets.{noWindow}
-use Rattle.sheet.specs.File.{got, refused, andThen, Window, windowAt, windowsAt, put}
+use Rattle.sheet.specs.File.{got, refused, andThen, Placed, recordAt, recordsAt, put}
 use Rattle.sheet.proofs.Counting.{one, none}
 use Rattle.sheet.proofs.Following.{then-value, then-refused}
 use Rattle.records.specs.Steps.{Walks}
@@ -16,25 +16,25 @@ use Rattle.records.specs.declared.Ending.the-variants as ending
 use Rattle.records.proofs.Walking.{grow, stopped}
 
 -- ---- the loop over the records: k of them are passed
-abbrev pub store : List ℤ → List Window → List ℤ
+abbrev pub store : List ℤ → List Placed → List ℤ
 store was windows = put windows was
 
 unroll : (file : List ℕ) (n count k low p : ℕ) → k < count
-    → windowsAt file n (count - k) low p ≡ andThen (windowAt file n low p) (λ w a. andThen (windowsAt file n (count - (k + 1)) (w .place + 1) a) (λ rest b. got (w ∷ rest) b))
-unfolding windowsAt
-unroll file n count k low p h = ap (λ (m : ℕ). windowsAt file n m low p) (one count k h)
+    → recordsAt file n (count - k) low p ≡ andThen (recordAt file n low p) (λ w a. andThen (recordsAt file n (count - (k + 1)) (w .place + 1) a) (λ rest b. got (w ∷ rest) b))
+unfolding recordsAt
+unroll file n count k low p h = ap (λ (m : ℕ). recordsAt file n m low p) (one count k h)
 
 module _ (file : List ℕ) (n count k low p : ℕ) (part : List ℤ) where
-  pub next : k < count → (w : Window) (a : ℕ) → windowAt file n low p ≡ got w a → (r : Ending) (now : List ℤ)
-      → Walks store (windowsAt file n (count - (k + 1)) (w .place + 1) a) (set part (w .place) (w .limit)) r now → Walks store (windowsAt file n (count - k) low p) part r now
+  pub next : k < count → (w : Placed) (a : ℕ) → recordAt file n low p ≡ got w a → (r : Ending) (now : List ℤ)
+      → Walks store (recordsAt file n (count - (k + 1)) (w .place + 1) a) (set part (w .place) (w .limit)) r now → Walks store (recordsAt file n (count - k) low p) part r now
   unfolding put
   next h w a e r now g = rw (unroll file n count k low p h ∙ then-value _ _ w a e) (grow store store w part (set part (w .place) (w .limit)) (λ xs. refl) _ r now g)
 
-  pub stop : k < count → (j : ℕ) → windowAt file n low p ≡ refused j → Walks store (windowsAt file n (count - k) low p) part (ending.Refused j) part
+  pub stop : k < count → (j : ℕ) → recordAt file n low p ≡ refused j → Walks store (recordsAt file n (count - k) low p) part (ending.Refused j) part
   stop h j e = stopped store _ part part j (unroll file n count k low p h ∙ then-refused _ _ j e)
 
-  pub done : count ≤ k → Walks store (windowsAt file n (count - k) low p) part (ending.At p) part
-  unfolding Walks windowsAt put
+  pub done : count ≤ k → Walks store (recordsAt file n (count - k) low p) part (ending.At p) part
+  unfolding Walks recordsAt put
   done h = rw (none count k h) (refl, refl)
 
 -- ---- the loop that clears a part: k places are passed

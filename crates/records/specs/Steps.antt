@@ -7,7 +7,7 @@ use lib.Dec.{leb}
 use Rattle.numbers.specs.Signs.{decoded}
 use Rattle.numbers.specs.declared.Number.{Number}
 use Rattle.numbers.specs.declared.Number.the-variants as number
-use Rattle.sheet.specs.File.{Part, got, refused, Window, window}
+use Rattle.sheet.specs.File.{Part, got, refused, Placed, placed}
 use Rattle.records.specs.declared.Found.{Found}
 use Rattle.records.specs.declared.Found.the-variants as found
 use Rattle.records.specs.declared.Ending.{Ending}
@@ -23,8 +23,8 @@ refusedNumber (number.Value v next) = 0
 refusedNumber (number.Refused k) = k
 
 -- a record that was found, as the part that it is
-abbrev pub foundPart : Found → Part Window
-foundPart (found.Window p u next) = got (window p (decoded u)) next
+abbrev pub foundPart : Found → Part Placed
+foundPart (found.Placed p u next) = got (placed p (decoded u)) next
 foundPart (found.Refused k) = refused k
 
 -- a part was read to its end and what it holds was put into a list, or it was refused

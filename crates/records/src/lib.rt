@@ -10,12 +10,12 @@ ghost use lib.ListN.{set, replicate};
 ghost use lib.Seq.{sets};
 ghost use Rattle.numbers.specs.Groups.{numberAt};
 ghost use Rattle.tables.specs.Sheets.{noWindow};
-ghost use Rattle.sheet.specs.File.{tested, valueAt, windowAt, windowsAt, modeAt, modesAt, put, laid, tablesOf};
+ghost use Rattle.sheet.specs.File.{tested, valueAt, recordAt, recordsAt, modeAt, modesAt, put, laid, tablesOf};
 ghost use Rattle.records.specs.Steps.{between, refusedNumber, foundPart, Walks};
 
 // A record of a mode: its place in the mode's part and its limit as the file has it.
 enum Found {
-    Window {
+    Placed {
         place: usize,
         code: u32,
         next: usize,
@@ -91,7 +91,7 @@ fn read_value(file: &[u8], place: usize, low: usize, at: usize) -> Found
     if place < low {
         return Found::Refused { number: 7 };
     }
-    Found::Window {
+    Found::Placed {
         place,
         code: code as u32,
         next,
@@ -101,7 +101,7 @@ fn read_value(file: &[u8], place: usize, low: usize, at: usize) -> Found
 // The record at a place, whose own place in the mode's part is at least `low`.
 fn read_window(file: &[u8], n: usize, low: usize, at: usize) -> Found
     requires { ⌜ n ≤ 12 ⌝ }
-    ensures { λ r. ⌜ foundPart r ≡ windowAt (now (file .entry)) n low at ⌝ }
+    ensures { λ r. ⌜ foundPart r ≡ recordAt (now (file .entry)) n low at ⌝ }
 {
     let first = kind_at(file, at);
     let Number::Value {
@@ -145,14 +145,14 @@ fn put_value(part: &mut [i32], place: usize, value: i32)
 // Reads so many records from a place on, and puts each at its place in the mode's part.
 fn read_windows(file: &[u8], n: usize, count: usize, at: usize, part: &mut [i32]) -> Ending
     requires { ⌜ n ≤ 12 ⌝ }
-    ensures { λ r. ⌜ Walks (λ was windows. put windows was) (windowsAt (now (file .entry)) n count 0 at) (now (part .entry)) r (now (part .exit)) ⌝ }
+    ensures { λ r. ⌜ Walks (λ was windows. put windows was) (recordsAt (now (file .entry)) n count 0 at) (now (part .entry)) r (now (part .exit)) ⌝ }
 {
     let mut low: usize = 0;
     let mut p = at;
     let mut k: usize = 0;
     while k < count {
         match read_window(file, n, low, p) {
-            Found::Window { place, code, next } => {
+            Found::Placed { place, code, next } => {
                 put_value(part, place, numbers::decode(code));
                 low = place + 1;
                 p = next;

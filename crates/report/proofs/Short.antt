@@ -1,6 +1,6 @@
 -- A report is short: "No plan time exceeds 382,000,000,000", and an arc's four numbers have seven digits at most. So every text has room.
 use mathlib.Core.Path.{_≡_, refl, sym, ap, subst}
-use mathlib.Core.Logic.{_⊎_, inl, inr}
+use mathlib.Core.Logic.{inl, inr}
 use mathlib.Core.List.{List, [], _∷_, _++_, map}
 use Prim.Native.Nat.{ℕ, zero, suc, _+_, _*_, _≤_, _<_}
 use native.Mathlib.Omega.{arith}
@@ -11,23 +11,24 @@ use Rattle.theory.specs.Ends.{High, open-end, up-to}
 use Rattle.theory.specs.Arcs.{Rounds}
 use Rattle.theory.proofs.Turning.{map-append}
 use Rattle.tables.specs.Sheets.{Sheet, refusal}
-use Rattle.tables.proofs.Laws.{Admitted, Sizes, accepted}
+use Rattle.tables.specs.Admitted.{Sizes, Admitted}
+use Rattle.tables.proofs.Laws.{accepted}
 use Rattle.sheet.specs.File.{Part}
 use Rattle.sheet.specs.File as file
 use Rattle.windows.specs.Windows.{number}
 use Rattle.windows.specs.Arcs.{node, nodes, oneTo, each, arcs}
-use Rattle.windows.specs.Circuits.{Step, Valid, AllValid, CircuitOf}
+use Rattle.windows.specs.Circuits.{Step, Valid, AllValid}
 use Rattle.windows.proofs.Laying.{node-inside}
 use Rattle.windows.proofs.Limits.{number-small, nodes-few}
 use Rattle.windows.proofs.Listed.{each-more}
 use Rattle.calls.specs.Ask.{Earliest}
 use Rattle.calls.proofs.Ask.Bounds.{plan-small}
-use Rattle.calls.specs.Ends.{Holds}
+use Rattle.calls.specs.Circuits.{CircuitOrNone}
 use Rattle.lines.specs.Lines.{low-word, high-word, first-word, second-word, refused-word, none-word, ends-word, plan-word, following, line, fraction, highSpelled, arcLine, circuitLines, highLines, numbersLine, timesAt, planLines}
 use Rattle.telling.specs.Tells.{TellsEnds, TellsNone, Tells}
 use Rattle.report.specs.Report.{room}
 use Rattle.lines.proofs.Lengths.{line-one, line-two, line-three, line-four, fraction-most, high-most, following-length}
-use Rattle.telling.proofs.Telling.{few-192, low-ready}
+use Rattle.telling.proofs.Telling.{few-192, low-askable}
 
 -- ---- the lines of a circuit
 
@@ -51,24 +52,23 @@ module _ (s : Sheet) (admitted : refusal s ≡ 0) where
   arcs-short [] v = omega arith
   arcs-short (c ∷ cs) v = omega (arith, length-append (arcLine c) (each cs arcLine), arc-short c (v .0), arcs-short cs (v .1))
 
-  module _ (before : List ℕ) (count : ℕ) (after : List ℕ) (h : Holds s before count after) where
-    valid : (steps : List Step) → (steps ≡ []) ⊎ CircuitOf s steps → AllValid s steps
-    valid steps (inl e) = subst (AllValid s) (sym e) tt
-    valid steps (inr c) = c .valid
+  valid : (cs : List Step) → CircuitOrNone s cs → AllValid s cs
+  valid cs (inl e) = subst (AllValid s) (sym e) tt
+  valid cs (inr c) = c .valid
 
-    circuit-short : (word : List ℕ) → length word ≤ 6 → length (circuitLines word (h .steps)) ≤ 2140
+  module _ (cs : List Step) (h : CircuitOrNone s cs) where
+    circuit-short : (word : List ℕ) → length word ≤ 6 → length (circuitLines word cs) ≤ 2140
     circuit-short word short =
         omega (
           arith,
-          length-append (line word (decimal (length (h .steps)) ∷ [])) (each (h .steps) arcLine),
-          line-two word (decimal (length (h .steps))),
-          decimal-most (length (h .steps)),
-          arcs-short (h .steps) (valid (h .steps) (h .circuit)),
-          h .counted,
-          few-192 s admitted before count after h,
+          length-append (line word (decimal (length cs) ∷ [])) (each cs arcLine),
+          line-two word (decimal (length cs)),
+          decimal-most (length cs),
+          arcs-short cs (valid cs h),
+          few-192 s admitted cs h,
         )
 
-    high-short : (high : High) → length (highLines high (h .steps)) ≤ 2140
+    high-short : (high : High) → length (highLines high cs) ≤ 2140
     high-short open-end = omega arith
     high-short (up-to top bottom) = circuit-short high-word (omega arith)
 
@@ -151,10 +151,10 @@ module _ (s : Sheet) (admitted : refusal s ≡ 0) (p q r : ℕ) (plan : List ℕ
 
 ends-short : (s : Sheet) → refusal s ≡ 0 → (text : List ℕ) → TellsEnds s text → length text ≤ room
 ends-short s admitted text t =
-    let low = low-ready s admitted (t .finds) in
+    let low = low-askable s admitted (t .finds) in
     let first = line ends-word (fraction (t .top) (t .bottom) ∷ highSpelled (t .high) ∷ []) in
-    let lows = circuitLines low-word (t .finds .first-holds .steps) in
-    let highs = highLines (t .high) (t .finds .second-holds .steps) in
+    let lows = circuitLines low-word (t .first) in
+    let highs = highLines (t .high) (t .second) in
     omega (
       arith,
       ap length (t .text-is),
@@ -164,23 +164,23 @@ ends-short s admitted text t =
       line-three ends-word (fraction (t .top) (t .bottom)) (highSpelled (t .high)),
       fraction-most (t .top) (t .bottom),
       high-most (t .high),
-      circuit-short s admitted [] (t .count₁) (t .first) (t .finds .first-holds) low-word (omega arith),
-      high-short s admitted [] (t .count₂) (t .second) (t .finds .second-holds) (t .high),
+      circuit-short s admitted (t .first) (t .finds .first-circuit) low-word (omega arith),
+      high-short s admitted (t .second) (t .finds .second-circuit) (t .high),
       plan-short s admitted (t .top) (t .bottom) (t .rounds) (t .plan) (omega (arith, low .few)) (low .small) (t .plan-is) (t .rounds-are),
     )
 
 none-short : (s : Sheet) → refusal s ≡ 0 → (text : List ℕ) → TellsNone s text → length text ≤ room
 none-short s admitted text t =
-    let firsts = circuitLines first-word (t .lacks .first-holds .steps) in
-    let seconds = circuitLines second-word (t .lacks .second-holds .steps) in
+    let firsts = circuitLines first-word (t .first) in
+    let seconds = circuitLines second-word (t .second) in
     omega (
       arith,
       ap length (t .text-is),
       length-append (line none-word [] ++ firsts) seconds,
       length-append (line none-word []) firsts,
       line-one none-word,
-      circuit-short s admitted [] (t .count₁) (t .first) (t .lacks .first-holds) first-word (omega arith),
-      circuit-short s admitted [] (t .count₂) (t .second) (t .lacks .second-holds) second-word (omega arith),
+      circuit-short s admitted (t .first) (t .lacks .first-circuit) first-word (omega arith),
+      circuit-short s admitted (t .second) (t .lacks .second-circuit) second-word (omega arith),
     )
 
 -- THEOREM: every report has room

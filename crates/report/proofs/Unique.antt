@@ -12,22 +12,25 @@ use Rattle.theory.proofs.Fractions.{range-same, low-works}
 use Rattle.theory.proofs.Loops.{rounds-same}
 use Rattle.theory.proofs.Turning.{map-append}
 use Rattle.tables.specs.Sheets.{Sheet, refusal}
-use Rattle.tables.proofs.Laws.{Sizes, accepted}
-use Rattle.numbers.proofs.Ways.{Bytes}
+use Rattle.tables.specs.Answers.{Answer, answer}
+use Rattle.tables.proofs.Answers.{number-same}
+use Rattle.tables.specs.Admitted.{Sizes}
+use Rattle.tables.proofs.Laws.{accepted}
+use Rattle.numbers.specs.Groups.{Bytes}
 use Rattle.sheet.specs.File.{Part, sheetIn}
 use Rattle.sheet.specs.File as file
 use Rattle.sheet.proofs.Admitted.{read-admitted}
 use Rattle.sheet.proofs.Front.{front}
 use Rattle.windows.specs.Inequalities.{Runs}
-use Rattle.windows.specs.Arcs.{node, nodes, arcs, oneTo, each}
-use Rattle.windows.proofs.Listed.{each-more}
+use Rattle.windows.specs.Arcs.{node, nodes, arcs, oneTo}
+use Rattle.windows.proofs.Listed.{each-one-to}
 use Rattle.windows.specs.Circuits.{Step}
 use Rattle.windows.proofs.Laying.{node-inside}
 use Rattle.calls.specs.Ask.{Earliest}
 use Rattle.calls.proofs.Ask.Unique.{plan-table}
 use Rattle.lines.specs.Lines.{ends-word, low-word, none-word, first-word, second-word, plan-word, line, fraction, highSpelled, circuitLines, highLines, numbersLine, timesAt, planLines}
 use Rattle.telling.specs.Tells.{TellsEnds, TellsNone, Tells}
-use Rattle.report.specs.Report.{judged, Reports, Answer, number, Outcome}
+use Rattle.report.specs.Report.{judged, Reports, Outcome, textIn, TextsAgree}
 use Rattle.report.specs.Report as report
 
 -- maps that agree from 1 to n make the same list of these
@@ -37,17 +40,13 @@ map-same (suc n) f g h =
     map-append f (oneTo n) (suc n ∷ []) ∙ ap₂ (λ (xs : List _) (y : _). xs ++ y ∷ []) (map-same n f g (λ i a b. h i a (omega arith))) (h (suc n) (omega arith) (omega arith))
     ∙ sym (map-append g (oneTo n) (suc n ∷ []))
 
-each-same : {B : Type 0} (n : ℕ) (f g : ℕ → List B) → ((i : ℕ) → 1 ≤ i → i ≤ n → f i ≡ g i) → each (oneTo n) f ≡ each (oneTo n) g
-each-same zero f g h = refl
-each-same (suc n) f g h = each-more n f ∙ ap₂ (λ (xs ys : List _). xs ++ ys) (each-same n f g (λ i a b. h i a (omega arith))) (h (suc n) (omega arith) (omega arith)) ∙ sym (each-more n g)
-
 module _ (s : Sheet) (z : Sizes s) where
   -- the plan's lines are determined by the cycle time
   plan-lines-same : (p q r r′ : ℕ) (plan plan′ : List ℕ) → Earliest s p q plan → Earliest s p q plan′ → Rounds (arcs s) p q (nodes s) r → Rounds (arcs s) p q (nodes s) r′
       → planLines s q r plan ≡ planLines s q r′ plan′
   plan-lines-same p q r r′ plan plan′ e e′ k k′ =
       ap (λ (u : ℕ). planLines s q u plan) same
-      ∙ ap (λ (t : List ℕ). line plan-word (decimal q ∷ decimal r′ ∷ []) ++ t) (each-same (s .positions) (λ h. numbersLine (timesAt s plan h)) (λ h. numbersLine (timesAt s plan′ h)) (λ h a b. ap numbersLine (map-same (s .n) (λ i. getD plan (node s h i) 0) (λ i. getD plan′ (node s h i) 0) (λ i c d. times (node s h i) (node-inside s (z .some-positions) h i (c, d))))))
+      ∙ ap (λ (t : List ℕ). line plan-word (decimal q ∷ decimal r′ ∷ []) ++ t) (each-one-to (s .positions) (λ h. numbersLine (timesAt s plan h)) (λ h. numbersLine (timesAt s plan′ h)) (λ h a b. ap numbersLine (map-same (s .n) (λ i. getD plan (node s h i) 0) (λ i. getD plan′ (node s h i) 0) (λ i c d. times (node s h i) (node-inside s (z .some-positions) h i (c, d))))))
     where
       same : r ≡ r′
       same = rounds-same (arcs s) p q (nodes s) r r′ k k′
@@ -76,16 +75,7 @@ module _ (s : Sheet) (z : Sizes s) where
 never-both : (s : Sheet) (text text′ : List ℕ) → TellsEnds s text → TellsNone s text′ → ⊥
 never-both s text text′ a b = b .lacks .never (a .top) (a .bottom) (a .finds .range .bottom) (low-works (Runs s) (a .top) (a .bottom) (a .high) (a .finds .range))
 
--- The two texts agree: the same refusal, or the same ends and the same lines of the plan, or none both.
-abbrev pub Agree : (w : Part Sheet) (text text′ : List ℕ) → Tells w text → Tells w text′ → Type 0
-Agree (file.got s next) text text′ (inl a) (inl b) =
-    (a .top ≡ b .top) × (a .bottom ≡ b .bottom) × (a .high ≡ b .high) × (planLines s (a .bottom) (a .rounds) (a .plan) ≡ planLines s (b .bottom) (b .rounds) (b .plan))
-Agree (file.got s next) text text′ (inl a) (inr b) = ⊥
-Agree (file.got s next) text text′ (inr a) (inl b) = ⊥
-Agree (file.got s next) text text′ (inr a) (inr b) = Unit {0}
-Agree (file.refused k) text text′ x y = text ≡ text′
-
-tells-same : (w : Part Sheet) → ((s : Sheet) (next : ℕ) → w ≡ file.got s next → refusal s ≡ 0) → (text text′ : List ℕ) (x : Tells w text) (y : Tells w text′) → Agree w text text′ x y
+tells-same : (w : Part Sheet) → ((s : Sheet) (next : ℕ) → w ≡ file.got s next → refusal s ≡ 0) → (text text′ : List ℕ) (x : Tells w text) (y : Tells w text′) → TextsAgree w text text′ x y
 tells-same (file.got s next) h text text′ (inl a) (inl b) = ends-same s (accepted s (h s next refl) .size) text text′ a b
 tells-same (file.got s next) h text text′ (inl a) (inr b) = never-both s text text′ a b
 tells-same (file.got s next) h text text′ (inr a) (inl b) = never-both s text′ text b a
@@ -93,33 +83,44 @@ tells-same (file.got s next) h text text′ (inr a) (inr b) = tt
 tells-same (file.refused k) h text text′ x y = x ∙ sym y
 
 -- THEOREM: two reports of the same bytes agree
-pub reports-same : (bytes text text′ : List ℕ) (x : Reports bytes text) (y : Reports bytes text′) → Agree (sheetIn (take judged bytes)) text text′ x y
+pub reports-same : (bytes text text′ : List ℕ) (x : Reports bytes text) (y : Reports bytes text′) → TextsAgree (sheetIn (take judged bytes)) text text′ x y
 reports-same bytes text text′ x y = tells-same (sheetIn (take judged bytes)) (read-admitted (take judged bytes)) text text′ x y
 
 -- THEOREM: "Of a file over 27,685 bytes the first 27,685 are judged; the answer is the same."
 pub judged-same : (bytes text : List ℕ) → Bytes bytes → judged ≤ length bytes → Reports bytes text → Tells (sheetIn bytes) text
 judged-same bytes text b long x = subst (λ (w : Part Sheet). Tells w text) (front bytes b long) x
 
--- THEOREM: two outcomes have the same number, and two refusals leave the same buffer
-pub outcome-same : (bytes out₀ : List ℕ) (a b : Answer) (out out′ : List ℕ) → Outcome bytes out₀ a out → Outcome bytes out₀ b out′ → number a ≡ number b
-outcome-same bytes out₀ (report.written c) (report.written d) out out′ x y = refl
-outcome-same bytes out₀ (report.written c) (report.refused k) out out′ x y = absurd (omega (arith, x .0, y .0))
-outcome-same bytes out₀ (report.refused k) (report.written c) out out′ x y = absurd (omega (arith, x .0, y .0))
-outcome-same bytes out₀ (report.refused k) (report.refused j) out out′ x y = x .1 ∙ sym (y .1)
+-- THEOREM: where the number is 0, the text that was written is a report of the bytes
+pub written-reports : {bytes out₀ : List ℕ} {a : Answer} {out : List ℕ} (x : Outcome bytes out₀ a out) → a .number ≡ 0 → Reports bytes (textIn x)
+written-reports (report.written text e roomy is same) none = is
+written-reports (report.refused e short same) none = absurd (omega (arith, number-same e))
 
-pub refused-same : (bytes out₀ : List ℕ) (k j : ℕ) (out out′ : List ℕ) → Outcome bytes out₀ (report.refused k) out → Outcome bytes out₀ (report.refused j) out′ → out ≡ out′
-refused-same bytes out₀ k j out out′ x y = x .2 ∙ sym (y .2)
+module _ (bytes out₀ : List ℕ) (a b : Answer) (out out′ : List ℕ) where
+  -- THEOREM: two outcomes have the same number, and two refusals leave the same buffer
+  pub outcome-same : Outcome bytes out₀ a out → Outcome bytes out₀ b out′ → a .number ≡ b .number
+  outcome-same (report.written text e roomy is same) (report.written text′ e′ roomy′ is′ same′) = number-same e ∙ sym (number-same e′)
+  outcome-same (report.written text e roomy is same) (report.refused e′ short same′) = absurd (omega (arith, roomy, short))
+  outcome-same (report.refused e short same) (report.written text′ e′ roomy is′ same′) = absurd (omega (arith, roomy, short))
+  outcome-same (report.refused e short same) (report.refused e′ short′ same′) = number-same e ∙ sym (number-same e′)
 
--- THEOREM: two texts that were written agree
-pub written-same : (bytes out₀ : List ℕ) (c d : ℕ) (out out′ : List ℕ) (x : Outcome bytes out₀ (report.written c) out) (y : Outcome bytes out₀ (report.written d) out′)
-    → Agree (sheetIn (take judged bytes)) (x .1) (y .1) (x .2) (y .2)
-written-same bytes out₀ c d out out′ x y = reports-same bytes (x .1) (y .1) (x .2) (y .2)
+  pub refused-same : Outcome bytes out₀ a out → Outcome bytes out₀ b out′ → a .number ≡ 9 → out ≡ out′
+  refused-same (report.written text e roomy is same) y nine = absurd (omega (arith, number-same e))
+  refused-same (report.refused e short same) (report.written text′ e′ roomy is′ same′) nine = absurd (omega (arith, roomy, short))
+  refused-same (report.refused e short same) (report.refused e′ short′ same′) nine = same ∙ sym same′
+
+  -- THEOREM: the same text is the same answer and leaves the same buffer; a refused file's text always is
+  pub buffer-same : (x : Outcome bytes out₀ a out) (y : Outcome bytes out₀ b out′) → textIn x ≡ textIn y → (a ≡ b) × (out ≡ out′)
+  buffer-same (report.written text e roomy is same) (report.written text′ e′ roomy′ is′ same′) t =
+      (e ∙ ap (λ (l : List ℕ). answer 0 (length l ∷ [])) t ∙ sym e′, same ∙ ap (λ (l : List ℕ). l ++ drop (length l) out₀) t ∙ sym same′)
+  buffer-same (report.written text e roomy is same) (report.refused e′ short same′) t = absurd (omega (arith, roomy, short))
+  buffer-same (report.refused e short same) (report.written text′ e′ roomy is′ same′) t = absurd (omega (arith, roomy, short))
+  buffer-same (report.refused e short same) (report.refused e′ short′ same′) t = (e ∙ sym e′, same ∙ sym same′)
 
 -- ---- where the circuits are the same, so is all else
 
 -- THEOREM: two reports of ends with the same circuits are the same text
-pub ends-text-same : (s : Sheet) → Sizes s → (text text′ : List ℕ) (a : TellsEnds s text) (b : TellsEnds s text′) → a .finds .first-holds .steps ≡ b .finds .first-holds .steps
-    → a .finds .second-holds .steps ≡ b .finds .second-holds .steps → text ≡ text′
+pub ends-text-same : (s : Sheet) → Sizes s → (text text′ : List ℕ) (a : TellsEnds s text) (b : TellsEnds s text′) → a .first ≡ b .first
+    → a .second ≡ b .second → text ≡ text′
 ends-text-same s z text text′ a b first second =
     let e = ends-same s z text text′ a b in
     let lines : line ends-word (fraction (a .top) (a .bottom) ∷ highSpelled (a .high) ∷ []) ≡ line ends-word (fraction (b .top) (b .bottom) ∷ highSpelled (b .high) ∷ []) =
@@ -132,13 +133,7 @@ ends-text-same s z text text′ a b first second =
     same t b h t′ b′ h′ x y z = cc
 
 -- THEOREM: and so are two of none
-pub none-text-same : (s : Sheet) (text text′ : List ℕ) (a : TellsNone s text) (b : TellsNone s text′) → a .lacks .first-holds .steps ≡ b .lacks .first-holds .steps
-    → a .lacks .second-holds .steps ≡ b .lacks .second-holds .steps → text ≡ text′
+pub none-text-same : (s : Sheet) (text text′ : List ℕ) (a : TellsNone s text) (b : TellsNone s text′) → a .first ≡ b .first
+    → a .second ≡ b .second → text ≡ text′
 none-text-same s text text′ a b first second =
     a .text-is ∙ ap₂ (λ (x y : List Step). line none-word [] ++ circuitLines first-word x ++ circuitLines second-word y) first second ∙ sym (b .text-is)
-
--- THEOREM: the same text is the same answer and leaves the same buffer; a refused file's text always is
-pub buffer-same : (bytes out₀ : List ℕ) (c d : ℕ) (out out′ : List ℕ) (x : Outcome bytes out₀ (report.written c) out) (y : Outcome bytes out₀ (report.written d) out′) → x .1 ≡ y .1 → (c ≡ d) × (out ≡ out′)
-buffer-same bytes out₀ c d out out′ x y e =
-    let count : c ≡ d = sym (x .3) ∙ ap length e ∙ y .3 in
-    (count, x .4 ∙ ap₂ (λ (t : List ℕ) (k : ℕ). t ++ drop k out₀) e count ∙ sym (y .4))

@@ -1,8 +1,10 @@
--- The call's answer as document 01 has it.
-use Rattle.report.specs.Report as report
+-- What the call answers, as document 01 has it: "Where an answer is an enum, a definition gives this paper's number and values for each case."
+use mathlib.Core.List.{[], _∷_}
+use Rattle.tables.specs.Answers.{Answer, answer}
 use Rattle.report.specs.declared.Told.{Told}
 use Rattle.report.specs.declared.Told.the-variants as told
 
-abbrev pub answer : Told → report.Answer
-answer (told.Written count) = report.written count
-answer (told.Refused number) = report.refused number
+-- 0 with the text's length; "Numbers 1 to 10 return only the number"
+abbrev pub answerTold : Told → Answer
+answerTold (told.Written count) = answer 0 (count ∷ [])
+answerTold (told.Refused number) = answer number []

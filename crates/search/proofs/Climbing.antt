@@ -14,14 +14,13 @@ use Rattle.tables.specs.Sheets.{Sheet, refusal}
 use Rattle.tables.proofs.Laws.{accepted}
 use Rattle.windows.specs.Arcs.{nodes, arcs}
 use Rattle.windows.specs.Circuits.{Step, numbers, stepArc}
-use Rattle.windows.specs.Buffers.{stepsIn}
 use Rattle.windows.proofs.Limits.{sheet-laid}
 use Rattle.windows.proofs.Numbers.{numbers-length}
-use Rattle.weights.specs.Weights.{weightsOf, Lists}
-use Rattle.search.specs.Copies.{copied, Fits}
+use Rattle.weights.specs.Weights.{weightsIn, Lists}
+use Rattle.search.specs.Copies.{copied, RoomFor}
 use Rattle.search.specs.Climbs.{Held, heldArcs, Beats, Over, LowHeld, HighHeld, NoneHeld}
 use Rattle.limits.specs.declared.Weight.{Weight}
-use Rattle.weights.proofs.Held.{lists, weights-are}
+use Rattle.weights.proofs.Held.{weightsOf, lists, weights-are}
 
 -- the arcs, copied from one buffer to the front of another
 pub copied-starts : (cs : List Step) (rest from to : List ℕ) (count : ℕ) → from ≡ numbers cs ++ rest → length cs ≡ count → copied from (4 * count) to ≡ numbers cs ++ drop (4 * count) to
@@ -34,7 +33,7 @@ module _ (s : Sheet) (ok : refusal s ≡ 0) (p q : ℕ) (found : List ℕ) (coun
   beats-lists = lists s ok (b .steps) (b .rest) found count (b .circuit) (b .counted) (b .starts)
 
   -- what a copy of it asks
-  pub beats-fits : length found ≡ 768 → (to : List ℕ) → length to ≡ 768 → Fits count found to
+  pub beats-fits : length found ≡ 768 → (to : List ℕ) → length to ≡ 768 → RoomFor count found to
   beats-fits room to room′ = (beats-lists .few, beats-lists .long, omega (arith, beats-lists .long))
 
   -- the circuit, where it was found and where it is copied to
@@ -46,7 +45,7 @@ module _ (s : Sheet) (ok : refusal s ≡ 0) (p q : ℕ) (found : List ℕ) (coun
       record { steps = b .steps; circuit = inr (b .circuit); counted = b .counted; rest = drop (4 * count) to; starts = copied-starts (b .steps) (b .rest) found to count (b .starts) (b .counted) }
 
   -- the sums that the code has
-  module _ (w : Weight) (weighed : w ≡ weightsOf s (stepsIn found count)) where
+  module _ (w : Weight) (weighed : w ≡ weightsIn s found count) where
     weight-is : w ≡ weightsOf s (b .steps)
     weight-is = weighed ∙ weights-are s ok (b .steps) (b .rest) found count (b .circuit) (b .counted) (b .starts)
 

@@ -14,7 +14,7 @@ use Rattle.tables.proofs.Laws.{accepted}
 use Rattle.windows.specs.Arcs.{nodes, arcs}
 use Rattle.windows.proofs.Limits.{sheet-laid, nodes-few}
 use Rattle.limits.specs.declared.Weight.{Weight}
-use Rattle.search.specs.Copies.{Fits}
+use Rattle.search.specs.Copies.{RoomFor}
 use Rattle.search.specs.Climbs.{HighHeld, heldArcs}
 use Rattle.search.specs.Searches.{Judged, Turns, Falls, Hangs, HighStands, Rests, Overhead}
 use Rattle.search.specs.declared.Stand.{Stand}
@@ -55,7 +55,7 @@ module _ (s : Sheet) (at : Stand) (high₀ found₀ : List ℕ) (h : Hangs s at 
   above-zero : Judged s at (tried.Above w count) found
   above-zero = subst (λ (x : Tried). Judged s at x found) e judged
 
-  pub fall-asks : Turns w × Fits count found high₀
+  pub fall-asks : Turns w × RoomFor count found high₀
   fall-asks = (
     high-ready s (h .ready .admitted) (at .top) (at .bottom) found count (above-zero .0) w (above-zero .1) (h .over),
     beats-fits s (h .ready .admitted) (at .top) (at .bottom) found count (above-zero .0) (above-zero .2) high₀ (h .high-room),

@@ -13,10 +13,10 @@ use Rattle.windows.proofs.Limits.{sheet-laid}
 use Rattle.limits.specs.declared.Weight.{Weight}
 use Rattle.limits.specs.declared.Climb.{Climb}
 use Rattle.limits.specs.declared.Climb.the-variants as climb
-use Rattle.limits.specs.Limits.{Next}
-use Rattle.search.specs.Copies.{copied, Fits}
+use Rattle.limits.specs.Limits.{Leads}
+use Rattle.search.specs.Copies.{copied, RoomFor}
 use Rattle.search.specs.Climbs.{LowHeld, NoneHeld, heldArcs}
-use Rattle.search.specs.Searches.{Judged, Gains, Rises, Stands, Fresh, Climbs}
+use Rattle.search.specs.Searches.{Judged, Gains, Rises, LowStands, Starting, Climbs}
 use Rattle.search.specs.declared.Stand.{Stand}
 use Rattle.search.specs.declared.Tried.{Tried}
 use Rattle.search.specs.declared.Tried.the-variants as tried
@@ -27,21 +27,21 @@ use Rattle.search.proofs.Copies.{copied-length}
 use Rattle.search.proofs.Climbing.{beats-fits, low-ready, low-on, low-alone, low-both}
 
 -- what the sums say, and where the circuits then are
-module _ (w : Weight) (before : ℕ) (found : List ℕ) (count : ℕ) (low₀ : List ℕ) (r : Climb) (next : Next w r) where
+module _ (w : Weight) (before : ℕ) (found : List ℕ) (count : ℕ) (low₀ : List ℕ) (r : Climb) (next : Leads w r) where
   pub rises-on : (top bottom : ℕ) → r ≡ climb.On top bottom → (low : List ℕ) → low ≡ copied found (4 * count) low₀
       → Rises w before found count low₀ (rise.On (record { top = top; bottom = bottom; arcs = count })) low
-  rises-on top bottom e low f = let n = subst (Next w) e next in (refl, n .0, n .1, f)
+  rises-on top bottom e low f = let n = subst (Leads w) e next in (refl, n .0, n .1, f)
 
   pub rises-alone : r ≡ climb.Alone → (low : List ℕ) → low ≡ copied found (4 * count) low₀ → Rises w before found count low₀ (rise.None count 0) low
-  rises-alone e low f = let n = subst (Next w) e next in (n .0, inl (n .1, refl, refl, f))
+  rises-alone e low f = let n = subst (Leads w) e next in (n .0, inl (n .1, refl, refl, f))
 
   pub rises-both : r ≡ climb.Both → Rises w before found count low₀ (rise.None before count) low₀
-  rises-both e = let n = subst (Next w) e next in (n .0, inr (n .1, refl, refl, refl))
+  rises-both e = let n = subst (Leads w) e next in (n .0, inr (n .1, refl, refl, refl))
 
 abbrev pub start : Stand
 start = record { top = 0; bottom = 1; arcs = 0 }
 
-pub fresh-stands : (s : Sheet) (low found : List ℕ) → Fresh s low found → Stands s start low found
+pub fresh-stands : (s : Sheet) (low found : List ℕ) → Starting s low found → LowStands s start low found
 fresh-stands s low found f =
     let ok = accepted s (f .admitted) in
     record {
@@ -58,7 +58,7 @@ fresh-stands s low found f =
 abbrev pub toClimb : Sheet → Stand → ℕ
 toClimb s at = left-to-climb (nodes s * 1000000) (s .n) (at .top) (at .bottom)
 
-module _ (s : Sheet) (at : Stand) (low₀ found₀ : List ℕ) (h : Stands s at low₀ found₀) (v : Tried) (found : List ℕ) (judged : Judged s at v found) where
+module _ (s : Sheet) (at : Stand) (low₀ found₀ : List ℕ) (h : LowStands s at low₀ found₀) (v : Tried) (found : List ℕ) (judged : Judged s at v found) where
   pub climbed-low : v ≡ tried.Works → Climbs s (climbed.Low at) low₀ found
   climbed-low e =
       let o = subst (λ (x : Tried). Judged s at x found) e judged in
@@ -68,17 +68,17 @@ module _ (s : Sheet) (at : Stand) (low₀ found₀ : List ℕ) (h : Stands s at 
     above : Judged s at (tried.Above w count) found
     above = subst (λ (x : Tried). Judged s at x found) e judged
 
-    fits : Fits count found low₀
+    fits : RoomFor count found low₀
     fits = beats-fits s (h .admitted) (at .top) (at .bottom) found count (above .0) (above .2) low₀ (h .low-room)
 
     kept : length (copied found (4 * count) low₀) ≡ 768
     kept = copied-length found (4 * count) low₀ (fits .1) (fits .2) ∙ h .low-room
 
-    pub climb-asks : Gains w × Fits count found low₀
+    pub climb-asks : Gains w × RoomFor count found low₀
     climb-asks = (low-ready s (h .admitted) (at .top) (at .bottom) found count (above .0) w (above .1), fits)
 
     module _ (r : Rise) (low : List ℕ) (rises : Rises w (at .arcs) found count low₀ r low) where
-      pub climb-next : (next : Stand) → r ≡ rise.On next → Stands s next low found × (toClimb s next < toClimb s at)
+      pub climb-next : (next : Stand) → r ≡ rise.On next → LowStands s next low found × (toClimb s next < toClimb s at)
       climb-next next f =
           let o = subst (λ (x : Rise). Rises w (at .arcs) found count low₀ x low) f rises in
           let on = low-on s (h .admitted) (at .top) (at .bottom) found count (above .0) w (above .1) low₀ (at .arcs) (next .top) (next .bottom) (h .held) (o .1) (o .2) in

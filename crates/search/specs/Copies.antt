@@ -8,5 +8,5 @@ abbrev pub copied : List ℕ → ℕ → List ℕ → List ℕ
 copied from count to = take count from ++ drop count to
 
 -- both buffers have room for so many arcs
-abbrev pub Fits : ℕ → List ℕ → List ℕ → Type 0
-Fits arcs from to = (arcs ≤ 192) × (4 * arcs ≤ length from) × (4 * arcs ≤ length to)
+abbrev pub RoomFor : ℕ → List ℕ → List ℕ → Type 0
+RoomFor arcs from to = (arcs ≤ 192) × (4 * arcs ≤ length from) × (4 * arcs ≤ length to)

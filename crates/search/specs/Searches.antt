@@ -8,11 +8,10 @@ use Rattle.theory.specs.Arcs.{Works}
 use Rattle.theory.specs.Ends.{Reduces}
 use Rattle.tables.specs.Sheets.{Sheet, refusal}
 use Rattle.windows.specs.Arcs.{arcs}
-use Rattle.windows.specs.Buffers.{stepsIn}
 use Rattle.ask.specs.declared.Asked.{Asked}
 use Rattle.ask.specs.declared.Asked.the-variants as asked
 use Rattle.limits.specs.declared.Weight.{Weight}
-use Rattle.weights.specs.Weights.{weightsOf}
+use Rattle.weights.specs.Weights.{weightsIn}
 use Rattle.search.specs.declared.Stand.{Stand}
 use Rattle.search.specs.declared.Tried.{Tried}
 use Rattle.search.specs.declared.Tried.the-variants as tried
@@ -42,7 +41,7 @@ Asks s at (asked.Refused k) found = ⊥
 -- what is found there: it works, or the circuit in the buffer is above zero, with its sums
 abbrev pub Judged : Sheet → Stand → Tried → List ℕ → Type 0
 Judged s at tried.Works found = Works (arcs s) (at .top) (at .bottom) × (length found ≡ 768)
-Judged s at (tried.Above w count) found = Beats s (at .top) (at .bottom) found count × (w ≡ weightsOf s (stepsIn found count)) × (length found ≡ 768)
+Judged s at (tried.Above w count) found = Beats s (at .top) (at .bottom) found count × (w ≡ weightsIn s found count) × (length found ≡ 768)
 
 -- a circuit of c below 0 that is above zero somewhere has W at least 0
 abbrev pub Gains : Weight → Type 0
@@ -65,21 +64,21 @@ abbrev pub Falls : Weight → List ℕ → ℕ → List ℕ → Stand → List �
 Falls w found count high₀ next high = (next .arcs ≡ count) × Reduces (w .downs - w .ups) (w .forths - w .backs) (next .top) (next .bottom) × (high ≡ copied found (4 * count) high₀)
 
 -- the climb stands at a cycle time, with its circuit in `low`
-pub record Stands (s : Sheet) (at : Stand) (low found : List ℕ) : Type 0 where
+pub record LowStands (s : Sheet) (at : Stand) (low found : List ℕ) : Type 0 where
   pub admitted : refusal s ≡ 0
   pub held : LowHeld s low (at .top) (at .bottom) (at .arcs)
   pub low-room : length low ≡ 768
   pub found-room : length found ≡ 768
 
 -- before the climb: an admitted sheet and two buffers
-pub record Fresh (s : Sheet) (low found : List ℕ) : Type 0 where
+pub record Starting (s : Sheet) (low found : List ℕ) : Type 0 where
   pub admitted : refusal s ≡ 0
   pub low-room : length low ≡ 768
   pub found-room : length found ≡ 768
 
 -- after it
 abbrev pub Climbs : Sheet → Climbed → List ℕ → List ℕ → Type 0
-Climbs s (climbed.Low at) low found = Works (arcs s) (at .top) (at .bottom) × Stands s at low found
+Climbs s (climbed.Low at) low found = Works (arcs s) (at .top) (at .bottom) × LowStands s at low found
 Climbs s (climbed.None count₁ count₂) low found = NoneHeld s low count₁ found count₂ × (length low ≡ 768) × (length found ≡ 768)
 
 -- something works at or below where the descent stands, and Ask may be asked there

@@ -13,8 +13,8 @@ use weights::weigh;
 ghost use mathlib.Core.Path.{_≡_};
 ghost use lib.ListN.{length};
 ghost use Rattle.tables.specs.Sheets.{sheet};
-ghost use Rattle.search.specs.Copies.{Fits};
-ghost use Rattle.search.specs.Searches.{Ready, Asks, Judged, Gains, Rises, Turns, Falls, Fresh, Climbs, HighStands, Rests, Overhead, Descends};
+ghost use Rattle.search.specs.Copies.{RoomFor};
+ghost use Rattle.search.specs.Searches.{Ready, Asks, Judged, Gains, Rises, Turns, Falls, Starting, Climbs, HighStands, Rests, Overhead, Descends};
 
 // A cycle time above every limit: a circuit has at most 192 arcs, of at most 1,000,000 each.
 const ABOVE: u64 = 192000001;
@@ -33,10 +33,10 @@ enum Tried {
 }
 
 // Room for the plan that Ask writes and the search does not need.
-fn plan_room() -> [u64; 192]
+fn plan_room() -> [u64; tables::NODES]
     ensures { λ r. ⌜ length r ≡ 192 ⌝ }
 {
-    [0; 192]
+    [0; tables::NODES]
 }
 
 // Asks at p/q. A refutation leaves its circuit at the front of the buffer.
@@ -66,7 +66,7 @@ fn ask_at(
     )
 }
 
-// Asks where the search stands, and weighs the circuit that refutes. (Ask refuses nothing here.)
+// Asks where the search stands, and weighs the circuit that refutes.
 fn judge_at(
     n: usize,
     m: usize,
@@ -81,6 +81,7 @@ fn judge_at(
 {
     match ask_at(n, m, positions, tables, schedule, at, found) {
         Asked::Accepted { rounds: _ } => Tried::Works,
+        // never taken: `ask_at` promises no refusal, since the sheet is admitted, the cycle time is within Ask's limits and there is room
         Asked::Refused { number: _ } => Tried::Works,
         Asked::Refuted { arcs: count } => {
             let arcs = count as usize;
@@ -98,7 +99,7 @@ enum Rise {
 
 // The circuit found goes over the one before, but where the two show together that nothing works.
 fn climb_by(weight: Weight, held: usize, found: &[u8], arcs: usize, low: &mut [u8]) -> Rise
-    requires { ⌜ Gains weight × Fits arcs (now found) (now low) ⌝ }
+    requires { ⌜ Gains weight × RoomFor arcs (now found) (now low) ⌝ }
     ensures { λ r. ⌜ Rises weight held (now (found .entry)) arcs (now (low .entry)) r (now (low .exit)) ⌝ }
 {
     match next_low(weight) {
@@ -136,7 +137,7 @@ pub fn climb(
     low: &mut [u8],
     found: &mut [u8],
 ) -> Climbed
-    requires { ⌜ Fresh (sheet n m positions (now tables) (now schedule)) (now low) (now found) ⌝ }
+    requires { ⌜ Starting (sheet n m positions (now tables) (now schedule)) (now low) (now found) ⌝ }
     ensures { λ r. ⌜ Climbs (sheet n m positions (now (tables .entry)) (now (schedule .entry))) r (now (low .exit)) (now (found .exit)) ⌝ }
 {
     let mut at = Stand {
@@ -163,7 +164,7 @@ pub fn climb(
 
 // The circuit found, above zero at a cycle time that lies over one that works, goes over the one before, and its limit is next.
 fn descend_by(weight: Weight, found: &[u8], arcs: usize, high: &mut [u8]) -> Stand
-    requires { ⌜ Turns weight × Fits arcs (now found) (now high) ⌝ }
+    requires { ⌜ Turns weight × RoomFor arcs (now found) (now high) ⌝ }
     ensures { λ r. ⌜ Falls weight (now (found .entry)) arcs (now (high .entry)) r (now (high .exit)) ⌝ }
 {
     let limit = next_high(weight);

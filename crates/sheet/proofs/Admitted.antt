@@ -1,6 +1,6 @@
 -- A sheet that was read is admitted in memory: none of 4, 5 and 6 is its refusal.
 use mathlib.Core.Path.{_≡_, refl, sym, ap, _∙_}
-use mathlib.Core.Bool.{Bool, true}
+use mathlib.Core.Bool.{Bool, true, _||_}
 use mathlib.Core.List.{List, [], _∷_, _++_}
 use Prim.Native.Nat.{ℕ, zero, suc, _+_, _*_}
 use native.Mathlib.Omega.{arith}
@@ -8,9 +8,10 @@ use lib.IntN.{ℤ}
 use lib.Dec.{ltb}
 use lib.ListN.{set, replicate}
 use lib.Seq.{take-all}
-use Rattle.tables.specs.Sheets.{Sheet, noWindow, inLimit, absent, or, admits, all, places, scheduled, admitted, refusal}
-use Rattle.tables.proofs.Laws.{both, Sizes, sized-yes, refused-not, yes}
-use Rattle.sheet.specs.File.{got, Window, modeAt, modesAt, put, laid, tablesOf, scheduleAt, sheetIn}
+use Rattle.tables.specs.Sheets.{Sheet, noWindow, inLimit, absent, admits, all, places, scheduled, admitted, refusal}
+use Rattle.tables.specs.Admitted.{Sizes}
+use Rattle.tables.proofs.Laws.{both, sized-yes, refused-not, yes}
+use Rattle.sheet.specs.File.{got, Placed, modeAt, modesAt, put, laid, tablesOf, scheduleAt, sheetIn}
 use Rattle.sheet.proofs.Numbers.{after-got, tested-value}
 use Rattle.sheet.proofs.Following.{then-got}
 use Rattle.sheet.proofs.Windows.{Good, good}
@@ -36,20 +37,20 @@ module _ {A : Type 0} (f : A → Bool) where
 
 -- ---- the values of the tables
 limit-admitted : (v : ℤ) → inLimit v ≡ true → admits v ≡ true
-limit-admitted v e = ap (λ (b : Bool). or b (absent v)) e
+limit-admitted v e = ap (λ (b : Bool). b || absent v) e
 
-admitted-put : (windows : List Window) (size low : ℕ) (part : List ℤ) → Good size low windows → all admits part ≡ true → all admits (put windows part) ≡ true
+admitted-put : (windows : List Placed) (size low : ℕ) (part : List ℤ) → Good size low windows → all admits part ≡ true → all admits (put windows part) ≡ true
 unfolding put Good
 admitted-put [] size low part g h = h
 admitted-put (w ∷ rest) size low part g h = admitted-put rest size (w .place + 1) (set part (w .place) (w .limit)) (g .3) (all-set admits part (w .place) (w .limit) h (limit-admitted (w .limit) (g .2)))
 
-admitted-mode : (file : List ℕ) (n at : ℕ) (windows : List Window) (next : ℕ) → modeAt file n at ≡ got windows next → all admits (laid (4 * (n * n)) windows) ≡ true
+admitted-mode : (file : List ℕ) (n at : ℕ) (windows : List Placed) (next : ℕ) → modeAt file n at ≡ got windows next → all admits (laid (4 * (n * n)) windows) ≡ true
 unfolding modeAt laid
 admitted-mode file n at windows next h =
     let c = after-got _ _ _ _ h in
     admitted-put windows (4 * (n * n)) 0 (replicate (4 * (n * n)) noWindow) (good file n (c .value) 0 (c .place) windows next (c .rest)) (all-replicate admits (4 * (n * n)) noWindow refl)
 
-admitted-modes : (file : List ℕ) (n m at : ℕ) (modes : List (List Window)) (next : ℕ) → modesAt file n m at ≡ got modes next → all admits (tablesOf n modes) ≡ true
+admitted-modes : (file : List ℕ) (n m at : ℕ) (modes : List (List Placed)) (next : ℕ) → modesAt file n m at ≡ got modes next → all admits (tablesOf n modes) ≡ true
 unfolding modesAt tablesOf all
 admitted-modes file n zero at modes next h = let e : modes ≡ [] = cc in rw e
 admitted-modes file n (suc m) at modes next h =

@@ -9,16 +9,16 @@ use borrow.Author.Tests.{ltb-true, leb-true, eqb-true, lt-ltb, ne-eqb}
 use lib.Dec.{leb, ltb, eqb}
 use lib.ListN.{length, getD, take}
 use lib.Seq.{getD-take, length-take-le}
-use Rattle.numbers.specs.Groups.{group, numberIn, numberAt, groups}
+use Rattle.numbers.specs.Groups.{group, numberIn, numberAt, groups, Bytes}
 use Rattle.numbers.specs.Signs.{decoded}
 use Rattle.numbers.specs.declared.Number.{Number}
 use Rattle.numbers.specs.declared.Number.the-variants.{Value, Refused}
 use Rattle.numbers.proofs.Signs.{encoded-decoded}
 use Rattle.numbers.proofs.Writing.{size-one}
-use Rattle.numbers.proofs.Ways.{Bytes, groups-read}
+use Rattle.numbers.proofs.Ways.{groups-read}
 use Rattle.tables.specs.Sheets.{inLimit, within}
 use Rattle.tables.proofs.Laws.{within-is}
-use Rattle.sheet.specs.File.{Part, got, refused, tested, after, andThen, Window, valueAt, windowAt, windowsAt, modeAt, modesAt, ended, tablesAt, scheduleAt, Counts, countsAt, sheetAfter, sheetIn}
+use Rattle.sheet.specs.File.{Part, got, refused, tested, after, andThen, Placed, valueAt, recordAt, recordsAt, modeAt, modesAt, ended, tablesAt, scheduleAt, Counts, countsAt, sheetAfter, sheetIn}
 use Rattle.sheet.proofs.Numbers.{after-got, tested-value}
 use Rattle.sheet.proofs.Following.{then-got}
 use Rattle.sheet.proofs.Windows.{recorded, few}
@@ -69,8 +69,8 @@ module _ (most : ℕ) (file other : List ℕ) (l : Alike most file other) where
   short at ok k v next e h = omega (arith, number-ends at ok k v next e, size-one v h)
 
   -- ---- a record: seven bytes are looked at, and six taken
-  window-alike : (n low at : ℕ) → n ≤ 12 → at + 7 ≤ most → windowAt file n low at ≡ windowAt other n low at
-  unfolding windowAt valueAt
+  window-alike : (n low at : ℕ) → n ≤ 12 → at + 7 ≤ most → recordAt file n low at ≡ recordAt other n low at
+  unfolding recordAt valueAt
   window-alike n low at g h =
       after-same _ _ _ _ (number-alike at (λ kind. leb kind 3) 6 (omega arith)) λ kind a e.
       let p = short at (λ kind. leb kind 3) 6 kind a e (omega (arith, leb-true kind 3 (tested-value _ _ _ _ _ e .1))) in
@@ -80,7 +80,7 @@ module _ (most : ℕ) (file other : List ℕ) (l : Alike most file other) where
       let r = short b (within n) 6 from c i (omega (arith, within-is n from (tested-value _ _ _ _ _ i .1) .1)) in
       after-same _ _ _ _ (number-alike c (λ u. inLimit (decoded u)) 6 (omega arith)) λ u d j. refl
 
-  window-ends : (n low at : ℕ) (w : Window) (next : ℕ) → n ≤ 12 → windowAt file n low at ≡ got w next → next ≤ at + 6
+  window-ends : (n low at : ℕ) (w : Placed) (next : ℕ) → n ≤ 12 → recordAt file n low at ≡ got w next → next ≤ at + 6
   window-ends n low at w next g e =
       let r = recorded file n low at w next e in
       let f = r .fit in
@@ -97,16 +97,16 @@ module _ (most : ℕ) (file other : List ℕ) (l : Alike most file other) where
         c,
       )
 
-  windows-alike : (n count low at : ℕ) → n ≤ 12 → at + 6 * count + 1 ≤ most → windowsAt file n count low at ≡ windowsAt other n count low at
-  unfolding windowsAt
+  windows-alike : (n count low at : ℕ) → n ≤ 12 → at + 6 * count + 1 ≤ most → recordsAt file n count low at ≡ recordsAt other n count low at
+  unfolding recordsAt
   windows-alike n zero low at g h = refl
   windows-alike n (suc count) low at g h =
       then-same _ _ _ _ (window-alike n low at g (omega arith)) λ w a e.
       let p = window-ends n low at w a g e in
       then-same _ _ _ _ (windows-alike n count (w .place + 1) a g (omega arith)) λ rest b f. refl
 
-  windows-ends : (n count low at : ℕ) (windows : List Window) (next : ℕ) → n ≤ 12 → windowsAt file n count low at ≡ got windows next → next ≤ at + 6 * count
-  unfolding windowsAt
+  windows-ends : (n count low at : ℕ) (windows : List Placed) (next : ℕ) → n ≤ 12 → recordsAt file n count low at ≡ got windows next → next ≤ at + 6 * count
+  unfolding recordsAt
   windows-ends n zero low at windows next g e = let q : at ≡ next = cc in omega arith
   windows-ends n (suc count) low at windows next g e =
       let w = then-got _ _ _ _ e in
@@ -124,7 +124,7 @@ module _ (most : ℕ) (file other : List ℕ) (l : Alike most file other) where
       let z = two-at-most count (omega arith) in
       windows-alike n count 0 a g (omega (arith, number-ends at (λ count. leb count (4 * (n * n))) 6 count a e))
 
-  mode-ends : (n at : ℕ) (windows : List Window) (next : ℕ) → n ≤ 12 → modeAt file n at ≡ got windows next → next ≤ at + 3458
+  mode-ends : (n at : ℕ) (windows : List Placed) (next : ℕ) → n ≤ 12 → modeAt file n at ≡ got windows next → next ≤ at + 3458
   unfolding modeAt
   mode-ends n at windows next g e =
       let v = after-got _ _ _ _ e in
@@ -141,7 +141,7 @@ module _ (most : ℕ) (file other : List ℕ) (l : Alike most file other) where
       let p = mode-ends n at w a g e in
       then-same _ _ _ _ (modes-alike n m a g (omega arith)) λ rest b f. refl
 
-  modes-ends : (n m at : ℕ) (modes : List (List Window)) (next : ℕ) → n ≤ 12 → modesAt file n m at ≡ got modes next → next ≤ at + 3458 * m
+  modes-ends : (n m at : ℕ) (modes : List (List Placed)) (next : ℕ) → n ≤ 12 → modesAt file n m at ≡ got modes next → next ≤ at + 3458 * m
   unfolding modesAt
   modes-ends n zero at modes next g e = let q : at ≡ next = cc in omega arith
   modes-ends n (suc m) at modes next g e =
@@ -214,7 +214,7 @@ module _ (most : ℕ) (file other : List ℕ) (l : Alike most file other) where
       let q = schedule-ends (c .m) (c .positions) a schedule b (k .few-modes) f in
       then-same _ _ _ _ (tables-alike (c .n) (c .m) b (k .few-events) (omega (arith, k .few-positions, k .few-modes))) λ tables d i. refl
 
--- "the first 27,685 are judged; the answer is the same"
+-- THEOREM: the first 27,685 bytes of a file are read as the whole file is
 pub front : (file : List ℕ) → Bytes file → 27685 ≤ length file → sheetIn (take 27685 file) ≡ sheetIn file
 front file f h =
     sym (sheet-alike 27685 file (take 27685 file) (record { same = λ i l. sym (getD-take 27685 file i 0 l); long = h; other-long = omega (arith, length-take-le 27685 file h); bytes = f }) (omega arith))

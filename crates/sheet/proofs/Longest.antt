@@ -15,8 +15,8 @@ use Rattle.numbers.specs.Signs.{encoded}
 use Rattle.numbers.proofs.Writing.{size-one, size-two, size-three}
 use Rattle.tables.specs.Sheets.{Sheet, sheet, admits, all, sized, scheduled, admitted, refusal}
 use Rattle.tables.proofs.Laws.{both, accepted, passes}
-use Rattle.sheet.specs.File.{Window}
-use Rattle.sheet.specs.Written.{inGroups, cell, windowsOf, records, modeNumbers, modesNumbers, sheetNumbers, written}
+use Rattle.sheet.specs.File.{Placed}
+use Rattle.sheet.specs.Written.{inGroups, cell, placedOf, records, modeNumbers, modesNumbers, sheetNumbers, written}
 use Rattle.sheet.proofs.Places.{fit-of}
 use Rattle.sheet.proofs.Windows.{few, Good}
 use Rattle.sheet.proofs.Parts.{windows-few, good-windows}
@@ -45,7 +45,7 @@ append-size : (a b : List ℕ) → length (inGroups (a ++ b)) ≡ length (inGrou
 append-size a b = ap length (inGroups-append a b) ∙ length-append (inGroups a) (inGroups b)
 
 -- ---- six bytes a record
-records-size : (n low : ℕ) (windows : List Window) → 0 < n → n ≤ 12 → Good (4 * (n * n)) low windows → length (inGroups (records n windows)) ≤ 6 * length windows
+records-size : (n low : ℕ) (windows : List Placed) → 0 < n → n ≤ 12 → Good (4 * (n * n)) low windows → length (inGroups (records n windows)) ≤ 6 * length windows
 unfolding records Good inGroups
 records-size n low [] h g f = omega arith
 records-size n low (w ∷ rest) h g f =
@@ -74,9 +74,9 @@ unfolding modeNumbers
 mode-size n part h g e q =
     let s = few n g in
     let l = windows-few 0 part in
-    let r = records-size n 0 (windowsOf 0 part) h g (good-windows (4 * (n * n)) 0 part (omega arith) q) in
-    let c = two-at-most (length (windowsOf 0 part)) (omega arith) in
-    omega (arith, cons-size (length (windowsOf 0 part)) (records n (windowsOf 0 part)))
+    let r = records-size n 0 (placedOf 0 part) h g (good-windows (4 * (n * n)) 0 part (omega arith) q) in
+    let c = two-at-most (length (placedOf 0 part)) (omega arith) in
+    omega (arith, cons-size (length (placedOf 0 part)) (records n (placedOf 0 part)))
 
 modes-size : (n m : ℕ) (tables : List ℤ) → 0 < n → n ≤ 12 → m * (4 * (n * n)) ≤ length tables → all admits (take (m * (4 * (n * n))) tables) ≡ true → length (inGroups (modesNumbers n m tables)) ≤ 3458 * m
 unfolding modesNumbers inGroups
@@ -97,7 +97,7 @@ schedule-size m (t ∷ rest) g q =
     let o = size-one t (omega arith) in
     omega (arith, cons-size t rest, schedule-size m rest g (b .1))
 
--- no admitted sheet is longer
+-- THEOREM: no admitted sheet has more than 27,684 bytes
 pub longest : (s : Sheet) → refusal s ≡ 0 → length (written s) ≤ 27684
 unfolding refusal scheduled admitted written sheetNumbers
 longest s e =
@@ -125,13 +125,17 @@ longest s e =
     )
 
 -- the sheet with every window there is, each at 1,000,000
-unfoldable pub full : Sheet
+unfoldable full : Sheet
 full = sheet 12 8 16 (replicate 4608 (pos 1000000)) (replicate 16 0)
 
-pub full-admitted : refusal full ≡ 0
+full-admitted : refusal full ≡ 0
 unfolding full refusal sized scheduled admitted all
 full-admitted = refl
 
-pub full-long : length (written full) ≡ 27684
-unfolding full written sheetNumbers modesNumbers modeNumbers records windowsOf cell inGroups grouped
-full-long = refl
+full-bytes : length (written full) ≡ 27684
+unfolding full written sheetNumbers modesNumbers modeNumbers records placedOf cell inGroups grouped
+full-bytes = refl
+
+-- THEOREM: and an admitted sheet has as many
+pub full-long : (s : Sheet) × (refusal s ≡ 0) × (length (written s) ≡ 27684)
+full-long = (full, full-admitted, full-bytes)

@@ -1,9 +1,8 @@
 -- How reading goes on from one number to the next: the laws of `tested` and `after`.
 use mathlib.Core.Path.{_≡_, refl, ap, _∙_}
-use mathlib.Core.Bool.{Bool, true, false}
+use mathlib.Core.Bool.{Bool, true, false, cond}
 use Prim.Native.Nat.{ℕ}
 use native.Mathlib.Omega.{arith}
-use Rattle.numbers.specs.Groups.{pick}
 use Rattle.numbers.specs.declared.Number.{Number}
 use Rattle.numbers.specs.declared.Number.the-variants.{Value, Refused}
 use Rattle.sheet.specs.File.{Part, got, refused, tested, after}
@@ -53,7 +52,7 @@ tested-value ok k (Value u e) v next h = cases (ok u) refl h
     clash : Refused k ≡ Value v next → ⊥
     clash e = let z : _≡_ {A = ℕ} 0 1 = cc in omega arith
 
-    cases : (b : Bool) → ok u ≡ b → pick b (Value u e) (Refused k) ≡ Value v next → (Value u e ≡ Value v next) × (ok v ≡ true)
+    cases : (b : Bool) → ok u ≡ b → cond b (Value u e) (Refused k) ≡ Value v next → (Value u e ≡ Value v next) × (ok v ≡ true)
     cases true q h = let z : v ≡ u = cc in (h, ap ok z ∙ q)
     cases false q h = absurd (clash h)
 tested-value ok k (Refused j) v next h = absurd (clash h)

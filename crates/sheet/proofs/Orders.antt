@@ -42,11 +42,13 @@ module _ (n kind to from kind′ to′ from′ : ℕ) (f : Fit n kind to from) (
     ]
   ]
 
+  -- THEOREM: a record before another stands at a lower place
   pub by-place : Before kind to from kind′ to′ from′ → inMode n kind to from < inMode n kind′ to′ from′
   by-place (by-kind l) = up n _ _ _ _ (omega (arith, f .some-from, f .few-from)) (less (up n kind (to - 1) kind′ (to′ - 1) (omega (arith, f .some-to, f .few-to)) (less l)))
   by-place (by-to e l) = up n _ _ _ _ (omega (arith, f .some-from, f .few-from)) (less (up n kind (to - 1) kind′ (to′ - 1) (omega (arith, f .some-to, f .few-to)) (same e (omega (arith, f .some-to)))))
   by-place (by-from e q l) = up n _ _ _ _ (omega (arith, f .some-from, f .few-from)) (same (omega (arith, ap (λ (k : ℕ). k * n) e, q)) (omega (arith, f .some-from)))
 
+  -- THEOREM: a record at a lower place comes before
   pub by-numbers : inMode n kind to from < inMode n kind′ to′ from′ → Before kind to from kind′ to′ from′
   by-numbers l = outer (down n (kind * n + (to - 1)) (from - 1) (kind′ * n + (to′ - 1)) (from′ - 1) (omega (arith, f .some-from, f .few-from)) (omega (arith, g .some-from, g .few-from)) l)
     where

@@ -101,7 +101,7 @@ module _ (n p : ℕ) (h : 0 < n) where
         few-from = omega (arith, mod-lt p h);
       }
 
--- "the window of mode t (from 0), kind, to, from stands at ((4t + kind)·n + to - 1)·n + from - 1": at its place in the part that starts at 4t·n²
+-- THEOREM: "the window of mode t (from 0), kind, to, from stands at ((4t + kind)·n + to - 1)·n + from - 1": at its place in the part that starts at 4t·n²
 pub in-tables : (n t kind to from : ℕ) → place n t kind to from ≡ t * (4 * (n * n)) + inMode n kind to from
 in-tables n t kind to from =
     omega (

@@ -5,22 +5,23 @@ use Prim.Native.Nat.{ℕ}
 use lib.IntN.{pos}
 use Rattle.numbers.specs.Groups.{numberIn, group, followed, grouped}
 use Rattle.tables.specs.Sheets.{Sheet, sheet, noWindow}
-use Rattle.sheet.specs.File.{Part, got, refused, tested, after, andThen, rising, valueAt, windowAt, windowsAt, modeAt, modesAt, put, laid, tablesOf, ended, tablesAt, scheduleAt, countsAt, sheetAfter, sheetIn}
-use Rattle.sheet.specs.Written.{inGroups, cell, windowsOf, records, modeNumbers, modesNumbers, sheetNumbers, written}
+use Rattle.sheet.specs.File.{Part, got, refused, tested, after, andThen, rising, valueAt, recordAt, recordsAt, modeAt, modesAt, put, laid, tablesOf, ended, tablesAt, scheduleAt, countsAt, sheetAfter, sheetIn}
+use Rattle.sheet.specs.Written.{inGroups, cell, placedOf, records, modeNumbers, modesNumbers, sheetNumbers, written}
 
--- "The first sheet is `01 01 01 01 00 02 02 01 01 0A 03 01 01 10`": n=1, 2:1,1=5, 3:1,1=8
+-- THEOREM: "The first sheet is `01 01 01 01 00 02 02 01 01 0A 03 01 01 10`": n=1, 2:1,1=5, 3:1,1=8
 pub first : sheetIn (1 ∷ 1 ∷ 1 ∷ 1 ∷ 0 ∷ 2 ∷ 2 ∷ 1 ∷ 1 ∷ 10 ∷ 3 ∷ 1 ∷ 1 ∷ 16 ∷ []) ≡ got (sheet 1 1 1 (noWindow ∷ noWindow ∷ pos 5 ∷ pos 8 ∷ []) (0 ∷ [])) 14
-unfolding sheetIn sheetAfter countsAt scheduleAt tablesAt ended modesAt modeAt windowsAt windowAt valueAt rising tested after andThen put laid tablesOf numberIn group followed
+unfolding sheetIn sheetAfter countsAt scheduleAt tablesAt ended modesAt modeAt recordsAt recordAt valueAt rising tested after andThen put laid tablesOf numberIn group followed
 first = refl
 
+-- THEOREM: and it is written as these bytes
 pub first-written : written (sheet 1 1 1 (noWindow ∷ noWindow ∷ pos 5 ∷ pos 8 ∷ []) (0 ∷ [])) ≡ 1 ∷ 1 ∷ 1 ∷ 1 ∷ 0 ∷ 2 ∷ 2 ∷ 1 ∷ 1 ∷ 10 ∷ 3 ∷ 1 ∷ 1 ∷ 16 ∷ []
-unfolding written sheetNumbers modesNumbers modeNumbers records windowsOf cell inGroups grouped
+unfolding written sheetNumbers modesNumbers modeNumbers records placedOf cell inGroups grouped
 first-written = refl
 
--- the report's sheet: n=2, 0:2,1=3, 1:2,1=4, 2:1,2=2
+-- THEOREM: the bytes of the report's sheet are n=2, 0:2,1=3, 1:2,1=4, 2:1,2=2
 pub report : sheetIn (1 ∷ 2 ∷ 1 ∷ 1 ∷ 0 ∷ 3 ∷ 0 ∷ 2 ∷ 1 ∷ 6 ∷ 1 ∷ 2 ∷ 1 ∷ 8 ∷ 2 ∷ 1 ∷ 2 ∷ 4 ∷ [])
     ≡ got (sheet 2 1 1 (noWindow ∷ noWindow ∷ pos 3 ∷ noWindow ∷ noWindow ∷ noWindow ∷ pos 4 ∷ noWindow ∷ noWindow ∷ pos 2 ∷ noWindow ∷ noWindow ∷ noWindow ∷ noWindow ∷ noWindow ∷ noWindow ∷ []) (0 ∷ [])) 18
-unfolding sheetIn sheetAfter countsAt scheduleAt tablesAt ended modesAt modeAt windowsAt windowAt valueAt rising tested after andThen put laid tablesOf numberIn group followed
+unfolding sheetIn sheetAfter countsAt scheduleAt tablesAt ended modesAt modeAt recordsAt recordAt valueAt rising tested after andThen put laid tablesOf numberIn group followed
 report = refl
 
 -- the number of a file's refusal, and 0 for a sheet
@@ -28,7 +29,7 @@ abbrev numberOf : Part Sheet → ℕ
 numberOf (got s next) = 0
 numberOf (refused k) = k
 
--- a file for each refusal of the reader that lies in the file, and some for the order of them
+-- THEOREM: these files have these refusals: one for each refusal that lies in the file, and some for the order of them
 pub refusals : map (λ file. numberOf (sheetIn file)) (
     -- "An empty file is 1"; a file that stops in a number, and in a record
     []
@@ -64,5 +65,5 @@ pub refusals : map (λ file. numberOf (sheetIn file)) (
     ∷ (1 ∷ 1 ∷ 1 ∷ 1 ∷ 0 ∷ 1 ∷ 0 ∷ 1 ∷ 1 ∷ 255 ∷ 136 ∷ 122 ∷ [])
     ∷ []
     ) ≡ 1 ∷ 1 ∷ 1 ∷ 2 ∷ 2 ∷ 2 ∷ 3 ∷ 4 ∷ 4 ∷ 4 ∷ 4 ∷ 5 ∷ 6 ∷ 6 ∷ 6 ∷ 6 ∷ 6 ∷ 6 ∷ 7 ∷ 6 ∷ 8 ∷ 0 ∷ 0 ∷ []
-unfolding sheetIn sheetAfter countsAt scheduleAt tablesAt ended modesAt modeAt windowsAt windowAt valueAt rising tested after andThen put laid tablesOf numberIn group followed
+unfolding sheetIn sheetAfter countsAt scheduleAt tablesAt ended modesAt modeAt recordsAt recordAt valueAt rising tested after andThen put laid tablesOf numberIn group followed
 refusals = refl

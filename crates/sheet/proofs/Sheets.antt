@@ -1,6 +1,6 @@
 -- A sheet that was read: what its parts are.
 use mathlib.Core.Path.{_≡_, refl, sym, ap, _∙_}
-use mathlib.Core.Bool.{Bool, true, false}
+use mathlib.Core.Bool.{Bool, true, false, cond}
 use mathlib.Core.List.{List, [], _∷_}
 use Prim.Native.Nat.{ℕ, zero, suc, _*_, _≤_}
 use native.Mathlib.Omega.{arith}
@@ -9,11 +9,11 @@ use borrow.Author.Tests.{eqb-true}
 use lib.Dec.{eqb}
 use lib.IntN.{ℤ}
 use lib.ListN.{length, length-append}
-use Rattle.numbers.specs.Groups.{pick, numberAt}
+use Rattle.numbers.specs.Groups.{numberAt}
 use Rattle.numbers.specs.declared.Number.the-variants.{Value}
 use Rattle.tables.specs.Sheets.{Sheet, sheet, places}
 use Rattle.tables.proofs.Laws.{within-is}
-use Rattle.sheet.specs.File.{Part, got, refused, Window, Counts, counts, countsAt, scheduleAt, modesAt, tablesOf, laid, ended, tablesAt, sheetAfter, sheetIn}
+use Rattle.sheet.specs.File.{Part, got, refused, Placed, Counts, counts, countsAt, scheduleAt, modesAt, tablesOf, laid, ended, tablesAt, sheetAfter, sheetIn}
 use Rattle.sheet.proofs.Numbers.{after-got, tested-value}
 use Rattle.sheet.proofs.Following.{then-got}
 use Rattle.sheet.proofs.Windows.{length-laid}
@@ -80,24 +80,24 @@ length-schedule file m (suc positions) at schedule next h =
 
 -- ---- the tables
 pub record Tabled (file : List ℕ) (n m at : ℕ) (tables : List ℤ) (next : ℕ) : Type 0 where
-  pub modes : List (List Window)
+  pub modes : List (List Placed)
   pub are : modesAt file n m at ≡ got modes next
   pub is : tables ≡ tablesOf n modes
   pub ends : next ≡ length file
 
-record Ended (file : List ℕ) (tables : List ℤ) (p : ℕ) (values : List ℤ) (next : ℕ) : Type 0 where
+record Complete (file : List ℕ) (tables : List ℤ) (p : ℕ) (values : List ℤ) (next : ℕ) : Type 0 where
   is : values ≡ tables
   ends : next ≡ length file
   same : p ≡ next
 
-closed : (file : List ℕ) (tables : List ℤ) (p : ℕ) (values : List ℤ) (next : ℕ) → ended file tables p ≡ got values next → Ended file tables p values next
+complete : (file : List ℕ) (tables : List ℤ) (p : ℕ) (values : List ℤ) (next : ℕ) → ended file tables p ≡ got values next → Complete file tables p values next
 unfolding ended
-closed file tables p values next h = cases (eqb p (length file)) refl h
+complete file tables p values next h = cases (eqb p (length file)) refl h
   where
     never : _≡_ {A = Part (List ℤ)} (refused 8) (got values next) → ⊥
     never e = let z : _≡_ {A = ℕ} 0 1 = cc in omega arith
 
-    cases : (b : Bool) → eqb p (length file) ≡ b → pick b (got tables p) (refused 8) ≡ got values next → Ended file tables p values next
+    cases : (b : Bool) → eqb p (length file) ≡ b → cond b (got tables p) (refused 8) ≡ got values next → Complete file tables p values next
     cases true q h = let z : p ≡ next = cc in record { is = cc; ends = sym z ∙ eqb-true p (length file) q; same = z }
     cases false q h = absurd (never h)
 
@@ -105,10 +105,10 @@ pub tabled : (file : List ℕ) (n m at : ℕ) (tables : List ℤ) (next : ℕ) �
 unfolding tablesAt
 tabled file n m at tables next h =
     let t = then-got _ _ _ _ h in
-    let e = closed file (tablesOf n (t .thing)) (t .place) tables next (t .rest) in
+    let e = complete file (tablesOf n (t .thing)) (t .place) tables next (t .rest) in
     record { modes = t .thing; are = t .is ∙ ap (got (t .thing)) (e .same); is = e .is; ends = e .ends }
 
-pub length-modes : (file : List ℕ) (n m at : ℕ) (modes : List (List Window)) (next : ℕ) → modesAt file n m at ≡ got modes next → length (tablesOf n modes) ≡ m * (4 * (n * n))
+pub length-modes : (file : List ℕ) (n m at : ℕ) (modes : List (List Placed)) (next : ℕ) → modesAt file n m at ≡ got modes next → length (tablesOf n modes) ≡ m * (4 * (n * n))
 unfolding modesAt tablesOf
 length-modes file n zero at modes next h = let e : modes ≡ [] = cc in rw e (omega arith)
 length-modes file n (suc m) at modes next h =

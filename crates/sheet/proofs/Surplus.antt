@@ -9,7 +9,8 @@ use lib.Dec.{ltb}
 use lib.ListN.{length, drop, length-append, length-drop}
 use lib.Seq.{take-append-le, drop-append-le}
 use Rattle.tables.specs.Sheets.{sheet, admits, all, places, sized, scheduled, admitted, refusal}
-use Rattle.tables.proofs.Laws.{accepted, Sizes, sized-yes, passes, refused-not}
+use Rattle.tables.specs.Admitted.{Sizes}
+use Rattle.tables.proofs.Laws.{accepted, sized-yes, passes, refused-not}
 use Rattle.sheet.specs.Written.{modeNumbers, modesNumbers, sheetNumbers, written}
 use Rattle.sheet.proofs.Sheets.{places-are}
 
@@ -23,11 +24,13 @@ surplus-modes n (suc m) tables more e =
     (ap (modesNumbers n m) (drop-append-le k tables more h) ∙ surplus-modes n m (drop k tables) more (omega (arith, length-drop k tables, suc-mul m k)))
 
 module _ (n m positions : ℕ) (tables : List ℤ) (schedule : List ℕ) (t : length tables ≡ places n m) (v : length schedule ≡ positions) (more : List ℤ) (others : List ℕ) where
+  -- THEOREM: a sheet with surplus is written as the sheet without it
   pub surplus-written : written (sheet n m positions (tables ++ more) (schedule ++ others)) ≡ written (sheet n m positions tables schedule)
   unfolding written sheetNumbers
   surplus-written =
       rw (take-append-le positions schedule others (omega arith), surplus-modes n m tables more (t ∙ sym (places-are n m)))
 
+  -- THEOREM: a sheet with surplus is admitted where the sheet without it is
   pub surplus-admitted : refusal (sheet n m positions tables schedule) ≡ 0 → refusal (sheet n m positions (tables ++ more) (schedule ++ others)) ≡ 0
   unfolding refusal scheduled admitted
   surplus-admitted e =

@@ -18,8 +18,8 @@ use Rattle.numbers.proofs.Ways.{read-groups}
 use Rattle.numbers.proofs.Reading as reading
 use Rattle.tables.specs.Sheets.{Sheet, exact, inLimit, admits, all, within, places, sized, scheduled, admitted, refusal}
 use Rattle.tables.proofs.Laws.{both, accepted, passes, yes}
-use Rattle.sheet.specs.File.{Part, got, Window, rising, valueAt, windowAt, windowsAt, modeAt, modesAt, tablesOf, ended, tablesAt, scheduleAt, counts, countsAt, sheetAfter, sheetIn}
-use Rattle.sheet.specs.Written.{inGroups, windowsOf, records, modeNumbers, modesNumbers, sheetNumbers, written}
+use Rattle.sheet.specs.File.{Part, got, Placed, rising, valueAt, recordAt, recordsAt, modeAt, modesAt, tablesOf, ended, tablesAt, scheduleAt, counts, countsAt, sheetAfter, sheetIn}
+use Rattle.sheet.specs.Written.{inGroups, placedOf, records, modeNumbers, modesNumbers, sheetNumbers, written}
 use Rattle.sheet.proofs.Numbers.{after-value, tested-yes}
 use Rattle.sheet.proofs.Following.{then-value}
 use Rattle.sheet.proofs.Places.{place-of, fit-of}
@@ -63,9 +63,9 @@ module _ (file : List ℕ) where
       }
 
   -- ---- a record
-  window-there : (n low at : ℕ) (w : Window) (more : List ℕ) → 0 < n → n ≤ 12 → low ≤ w .place → w .place < 4 * (n * n) → inLimit (w .limit) ≡ true
-      → Holds file at ((w .place / (n * n)) ∷ (w .place / n % n + 1) ∷ (w .place % n + 1) ∷ encoded (w .limit) ∷ more) → There file (windowAt file n low at) w more
-  unfolding windowAt valueAt rising
+  window-there : (n low at : ℕ) (w : Placed) (more : List ℕ) → 0 < n → n ≤ 12 → low ≤ w .place → w .place < 4 * (n * n) → inLimit (w .limit) ≡ true
+      → Holds file at ((w .place / (n * n)) ∷ (w .place / n % n + 1) ∷ (w .place % n + 1) ∷ encoded (w .limit) ∷ more) → There file (recordAt file n low at) w more
+  unfolding recordAt valueAt rising
   window-there n low at w more h g l p i k =
       let f = fit-of n (w .place) h p in
       let c = limit-code (w .limit) i in
@@ -84,9 +84,9 @@ module _ (file : List ℕ) where
         after = e .after;
       }
 
-  windows-there : (n low at : ℕ) (windows : List Window) (more : List ℕ) → 0 < n → n ≤ 12 → Good (4 * (n * n)) low windows → Holds file at (records n windows ++ more)
-      → There file (windowsAt file n (length windows) low at) windows more
-  unfolding windowsAt records Good
+  windows-there : (n low at : ℕ) (windows : List Placed) (more : List ℕ) → 0 < n → n ≤ 12 → Good (4 * (n * n)) low windows → Holds file at (records n windows ++ more)
+      → There file (recordsAt file n (length windows) low at) windows more
+  unfolding recordsAt records Good
   windows-there n low at [] more h g f k = record { next = at; is = refl; after = k }
   windows-there n low at (w ∷ rest) more h g f k =
       let a = window-there n low at w (records n rest ++ more) h g (f .0) (f .1) (f .2) k in
@@ -95,23 +95,23 @@ module _ (file : List ℕ) where
 
   -- ---- a mode
   mode-there : (n at : ℕ) (part : List ℤ) (more : List ℕ) → 0 < n → n ≤ 12 → length part ≡ 4 * (n * n) → all admits part ≡ true → Holds file at (modeNumbers n part ++ more)
-      → There file (modeAt file n at) (windowsOf 0 part) more
+      → There file (modeAt file n at) (placedOf 0 part) more
   unfolding modeAt modeNumbers
   mode-there n at part more h g e q k =
       let s = few n g in
       let l = windows-few 0 part in
-      let a = number at (length (windowsOf 0 part)) (records n (windowsOf 0 part) ++ more) (omega arith) k in
-      let b = windows-there n 0 (a .next) (windowsOf 0 part) more h g (good-windows (4 * (n * n)) 0 part (omega arith) q) (a .after) in
+      let a = number at (length (placedOf 0 part)) (records n (placedOf 0 part) ++ more) (omega arith) k in
+      let b = windows-there n 0 (a .next) (placedOf 0 part) more h g (good-windows (4 * (n * n)) 0 part (omega arith) q) (a .after) in
       record {
         next = b .next;
-        is = after-value _ _ _ _ (tested-yes (λ count. leb count (4 * (n * n))) 6 (numberAt file at) _ _ (a .is) (le-leb (length (windowsOf 0 part)) (4 * (n * n)) (omega arith))) ∙ b .is;
+        is = after-value _ _ _ _ (tested-yes (λ count. leb count (4 * (n * n))) 6 (numberAt file at) _ _ (a .is) (le-leb (length (placedOf 0 part)) (4 * (n * n)) (omega arith))) ∙ b .is;
         after = b .after;
       }
 
 -- the windows of each mode
-unfoldable pub modeList : ℕ → ℕ → List ℤ → List (List Window)
+unfoldable pub modeList : ℕ → ℕ → List ℤ → List (List Placed)
 modeList n zero tables = []
-modeList n (suc m) tables = windowsOf 0 (take (4 * (n * n)) tables) ∷ modeList n m (drop (4 * (n * n)) tables)
+modeList n (suc m) tables = placedOf 0 (take (4 * (n * n)) tables) ∷ modeList n m (drop (4 * (n * n)) tables)
 
 pub all-both : {A : Type 0} (f : A → Bool) (a b : List A) → all f (a ++ b) ≡ true → (all f a ≡ true) × (all f b ≡ true)
 unfolding all
@@ -194,7 +194,7 @@ ended-there : (file : List ℕ) (at : ℕ) → Holds file at [] → at ≡ lengt
 unfolding inGroups
 ended-there file at k = omega (arith, length-drop at file, ap length (k .bytes), k .inside)
 
--- reading a written sheet gives its tables and schedule back
+-- THEOREM: reading a written sheet gives the sheet back, without its surplus
 pub read-written : (s : Sheet) → refusal s ≡ 0 → sheetIn (written s) ≡ got (exact s) (length (written s))
 unfolding refusal sized scheduled admitted written sheetNumbers sheetIn sheetAfter tablesAt ended
 read-written s e =

@@ -1,6 +1,6 @@
 -- The records of a mode: what one is, and what they are together.
 use mathlib.Core.Path.{_≡_, refl, sym, ap, _∙_}
-use mathlib.Core.Bool.{Bool, true, false}
+use mathlib.Core.Bool.{Bool, true, false, cond}
 use mathlib.Core.List.{List, [], _∷_}
 use Prim.Native.Nat.{ℕ, zero, suc, _+_, _*_, _≤_, _<_}
 use native.Mathlib.Omega.{arith}
@@ -9,18 +9,18 @@ use borrow.Author.Tests.{leb-true}
 use lib.Dec.{leb}
 use lib.IntN.{ℤ}
 use lib.ListN.{length, set, replicate, length-set, length-replicate}
-use Rattle.numbers.specs.Groups.{pick, numberAt}
+use Rattle.numbers.specs.Groups.{numberAt}
 use Rattle.numbers.specs.Signs.{decoded}
 use Rattle.numbers.specs.declared.Number.the-variants.{Value}
 use Rattle.tables.specs.Sheets.{inLimit, noWindow}
 use Rattle.tables.proofs.Laws.{within-is}
-use Rattle.sheet.specs.File.{Part, got, refused, Window, window, inMode, rising, valueAt, windowAt, windowsAt, put, laid}
+use Rattle.sheet.specs.File.{Part, got, refused, Placed, placed, inMode, rising, valueAt, recordAt, recordsAt, put, laid}
 use Rattle.sheet.proofs.Numbers.{after-got, tested-value}
 use Rattle.sheet.proofs.Following.{then-got}
 use Rattle.sheet.proofs.Places.{Fit, in-part}
 
 -- a record that was read: its four numbers, where each stands, and what they say
-pub record Recorded (file : List ℕ) (n low at : ℕ) (w : Window) (next : ℕ) : Type 0 where
+pub record Recorded (file : List ℕ) (n low at : ℕ) (w : Placed) (next : ℕ) : Type 0 where
   pub kind : ℕ
   pub to : ℕ
   pub from : ℕ
@@ -35,26 +35,26 @@ pub record Recorded (file : List ℕ) (n low at : ℕ) (w : Window) (next : ℕ)
   pub fit : Fit n kind to from
   pub limited : inLimit (decoded code) ≡ true
   pub rises : low ≤ inMode n kind to from
-  pub is : w ≡ window (inMode n kind to from) (decoded code)
+  pub is : w ≡ placed (inMode n kind to from) (decoded code)
 
-pub record Risen (low p : ℕ) (v : ℤ) (next : ℕ) (w : Window) (end : ℕ) : Type 0 where
+pub record Risen (low p : ℕ) (v : ℤ) (next : ℕ) (w : Placed) (end : ℕ) : Type 0 where
   pub above : low ≤ p
-  pub is : w ≡ window p v
+  pub is : w ≡ placed p v
   pub ends : end ≡ next
 
-risen : (low p : ℕ) (v : ℤ) (next : ℕ) (w : Window) (end : ℕ) → rising low p v next ≡ got w end → Risen low p v next w end
+risen : (low p : ℕ) (v : ℤ) (next : ℕ) (w : Placed) (end : ℕ) → rising low p v next ≡ got w end → Risen low p v next w end
 unfolding rising
 risen low p v next w end h = cases (leb low p) refl h
   where
-    never : _≡_ {A = Part Window} (refused 7) (got w end) → ⊥
+    never : _≡_ {A = Part Placed} (refused 7) (got w end) → ⊥
     never e = let z : _≡_ {A = ℕ} 0 1 = cc in omega arith
 
-    cases : (b : Bool) → leb low p ≡ b → pick b (got (window p v) next) (refused 7) ≡ got w end → Risen low p v next w end
+    cases : (b : Bool) → leb low p ≡ b → cond b (got (placed p v) next) (refused 7) ≡ got w end → Risen low p v next w end
     cases true q h = record { above = leb-true low p q; is = cc; ends = cc }
     cases false q h = absurd (never h)
 
-pub recorded : (file : List ℕ) (n low at : ℕ) (w : Window) (next : ℕ) → windowAt file n low at ≡ got w next → Recorded file n low at w next
-unfolding windowAt valueAt
+pub recorded : (file : List ℕ) (n low at : ℕ) (w : Placed) (next : ℕ) → recordAt file n low at ≡ got w next → Recorded file n low at w next
+unfolding recordAt valueAt
 recorded file n low at w next h =
     let k = after-got _ _ _ _ h in
     let t = after-got _ _ _ _ (k .rest) in
@@ -86,21 +86,21 @@ recorded file n low at w next h =
     }
 
 -- the place of a record lies in its mode's part
-pub placed : (file : List ℕ) (n low at : ℕ) (w : Window) (next : ℕ) → windowAt file n low at ≡ got w next → w .place < 4 * (n * n)
-placed file n low at w next h =
+pub place-within : (file : List ℕ) (n low at : ℕ) (w : Placed) (next : ℕ) → recordAt file n low at ≡ got w next → w .place < 4 * (n * n)
+place-within file n low at w next h =
     let r = recorded file n low at w next h in
-    rw (ap (λ (x : Window). x .place) (r .is)) (in-part n (r .kind) (r .to) (r .from) (r .fit))
+    rw (ap (λ (x : Placed). x .place) (r .is)) (in-part n (r .kind) (r .to) (r .from) (r .fit))
 
 pub few : (n : ℕ) → n ≤ 12 → 4 * (n * n) ≤ 576
 few n h = omega (arith, mul-le-mul h h)
 
 -- windows that strictly rise from `low` on, below `size`, each with a limit in its range
-unfoldable pub Good : ℕ → ℕ → List Window → Type 0
+unfoldable pub Good : ℕ → ℕ → List Placed → Type 0
 Good size low [] = Unit
 Good size low (w ∷ rest) = (low ≤ w .place) × (w .place < size) × (inLimit (w .limit) ≡ true) × Good size (w .place + 1) rest
 
-pub good : (file : List ℕ) (n count low at : ℕ) (windows : List Window) (next : ℕ) → windowsAt file n count low at ≡ got windows next → Good (4 * (n * n)) low windows
-unfolding windowsAt Good
+pub good : (file : List ℕ) (n count low at : ℕ) (windows : List Placed) (next : ℕ) → recordsAt file n count low at ≡ got windows next → Good (4 * (n * n)) low windows
+unfolding recordsAt Good
 good file n zero low at windows next h = let e : windows ≡ [] = cc in rw e tt
 good file n (suc count) low at windows next h =
     let w = then-got _ _ _ _ h in
@@ -108,17 +108,17 @@ good file n (suc count) low at windows next h =
     let e : windows ≡ w .thing ∷ r .thing = cc (r .rest) in
     let d = recorded file n low at (w .thing) (w .place) (w .is) in
     rw e (
-      rw (ap (λ (x : Window). x .place) (d .is)) (d .rises),
-      placed file n low at (w .thing) (w .place) (w .is),
-      rw (ap (λ (x : Window). x .limit) (d .is)) (d .limited),
+      rw (ap (λ (x : Placed). x .place) (d .is)) (d .rises),
+      place-within file n low at (w .thing) (w .place) (w .is),
+      rw (ap (λ (x : Placed). x .limit) (d .is)) (d .limited),
       good file n count (w .thing .place + 1) (w .place) (r .thing) (r .place) (r .is),
     )
 
-pub length-put : (windows : List Window) (part : List ℤ) → length (put windows part) ≡ length part
+pub length-put : (windows : List Placed) (part : List ℤ) → length (put windows part) ≡ length part
 unfolding put
 length-put [] part = refl
 length-put (w ∷ rest) part = length-put rest (set part (w .place) (w .limit)) ∙ length-set part (w .place) (w .limit)
 
-pub length-laid : (size : ℕ) (windows : List Window) → length (laid size windows) ≡ size
+pub length-laid : (size : ℕ) (windows : List Placed) → length (laid size windows) ≡ size
 unfolding laid
 length-laid size windows = length-put windows (replicate size noWindow) ∙ length-replicate size noWindow

@@ -2,12 +2,12 @@
 -- "Order: format number 1; n; m; V; V mode numbers from 0; then for each mode a count and that many records of kind, to, from, value."
 -- "The reader checks each number as soon as it is read, left to right; 7 follows a record's fourth number; 8 after the last record".
 use Prim.Native.Nat.{ℕ, zero, suc, _+_, _-_, _*_}
-use mathlib.Core.Bool.{Bool}
+use mathlib.Core.Bool.{Bool, cond}
 use mathlib.Core.List.{List, [], _∷_, _++_}
 use lib.Dec.{leb, ltb, eqb}
 use lib.ListN.{length, set, replicate}
 use lib.IntN.{ℤ}
-use Rattle.numbers.specs.Groups.{pick, numberAt}
+use Rattle.numbers.specs.Groups.{numberAt}
 use Rattle.numbers.specs.Signs.{decoded}
 use Rattle.numbers.specs.declared.Number.{Number}
 use Rattle.numbers.specs.declared.Number.the-variants.{Value, Refused}
@@ -20,88 +20,91 @@ pub data Part (A : Type 0) : Type 0 where
 
 -- "checks each number as soon as it is read": the number, or the refusal k where the test fails
 unfoldable pub tested : (ℕ → Bool) → ℕ → Number → Number
-tested ok k (Value v next) = pick (ok v) (Value v next) (Refused k)
+tested ok k (Value v next) = cond (ok v) (Value v next) (Refused k)
 tested ok k (Refused j) = Refused j
 
--- "left to right": what follows a number, and what follows a part
+-- "left to right": what follows a number, with its value and the place after it
 unfoldable pub after : {A : Type 0} → Number → (ℕ → ℕ → Part A) → Part A
 after (Value v next) go = go v next
 after (Refused k) go = refused k
 
+-- "left to right": what follows a part, with what it holds and the place after it
 unfoldable pub andThen : {A B : Type 0} → Part A → (A → ℕ → Part B) → Part B
 andThen (got a next) go = go a next
 andThen (refused k) go = refused k
 
--- a window of a mode: where it stands in the mode's part of the tables, and its limit
-pub record Window : Type 0 where
+-- a limit at its place in a mode's part of the tables
+pub record Placed : Type 0 where
   pub place : ℕ
   pub limit : ℤ
 
-abbrev pub window : ℕ → ℤ → Window
-window p v = record { place = p; limit = v }
+-- the limit v at the place p
+abbrev pub placed : ℕ → ℤ → Placed
+placed p v = record { place = p; limit = v }
 
 -- the place of kind, to, from in "the part of the tables that starts at 4t·n²"
 abbrev pub inMode : ℕ → ℕ → ℕ → ℕ → ℕ
 inMode n kind to from = (kind * n + (to - 1)) * n + (from - 1)
 
 -- 7, "records not strictly rising": by kind, then to, then from is by place, and `low` is the first place above the record before
-unfoldable pub rising : ℕ → ℕ → ℤ → ℕ → Part Window
-rising low p v next = pick (leb low p) (got (window p v) next) (refused 7)
+unfoldable pub rising : ℕ → ℕ → ℤ → ℕ → Part Placed
+rising low p v next = cond (leb low p) (got (placed p v) next) (refused 7)
 
 -- the fourth number of a record, whose first three give its place. 6: "value past its limit"; "7 follows a record's fourth number"
-unfoldable pub valueAt : List ℕ → ℕ → ℕ → ℕ → Part Window
+unfoldable pub valueAt : List ℕ → ℕ → ℕ → ℕ → Part Placed
 valueAt file low p at =
     after (tested (λ u. inLimit (decoded u)) 6 (numberAt file at)) λ u next.
     rising low p (decoded u) next
 
--- a record. 6: "kind above 3, event not 1..n"
-unfoldable pub windowAt : List ℕ → ℕ → ℕ → ℕ → Part Window
-windowAt file n low at =
+-- a record, "kind, to, from, value". 6: "kind above 3, event not 1..n"
+unfoldable pub recordAt : List ℕ → ℕ → ℕ → ℕ → Part Placed
+recordAt file n low at =
     after (tested (λ kind. leb kind 3) 6 (numberAt file at)) λ kind a.
     after (tested (within n) 6 (numberAt file a)) λ to b.
     after (tested (within n) 6 (numberAt file b)) λ from c.
     valueAt file low (inMode n kind to from) c
 
 -- so many records, the first of them at or above the place `low`
-unfoldable pub windowsAt : List ℕ → ℕ → ℕ → ℕ → ℕ → Part (List Window)
-windowsAt file n zero low at = got [] at
-windowsAt file n (suc count) low at =
-    andThen (windowAt file n low at) λ w a.
-    andThen (windowsAt file n count (w .place + 1) a) λ rest b.
+unfoldable pub recordsAt : List ℕ → ℕ → ℕ → ℕ → ℕ → Part (List Placed)
+recordsAt file n zero low at = got [] at
+recordsAt file n (suc count) low at =
+    andThen (recordAt file n low at) λ w a.
+    andThen (recordsAt file n count (w .place + 1) a) λ rest b.
     got (w ∷ rest) b
 
 -- a mode: "a count and that many records". 6: "count above 4·n²"
-unfoldable pub modeAt : List ℕ → ℕ → ℕ → Part (List Window)
+unfoldable pub modeAt : List ℕ → ℕ → ℕ → Part (List Placed)
 modeAt file n at =
     after (tested (λ count. leb count (4 * (n * n))) 6 (numberAt file at)) λ count a.
-    windowsAt file n count 0 a
+    recordsAt file n count 0 a
 
 -- "then for each mode"
-unfoldable pub modesAt : List ℕ → ℕ → ℕ → ℕ → Part (List (List Window))
+unfoldable pub modesAt : List ℕ → ℕ → ℕ → ℕ → Part (List (List Placed))
 modesAt file n zero at = got [] at
 modesAt file n (suc m) at =
     andThen (modeAt file n at) λ windows a.
     andThen (modesAt file n m a) λ rest b.
     got (windows ∷ rest) b
 
--- the windows at their places
-unfoldable pub put : List Window → List ℤ → List ℤ
+-- the limits of a mode's windows put at their places
+unfoldable pub put : List Placed → List ℤ → List ℤ
 put [] part = part
 put (w ∷ rest) part = put rest (set part (w .place) (w .limit))
 
 -- a mode's part of the tables: its windows, and "no window" at every other place
-unfoldable pub laid : ℕ → List Window → List ℤ
+unfoldable pub laid : ℕ → List Placed → List ℤ
 laid size windows = put windows (replicate size noWindow)
 
 -- the tables: one mode's part after the other
-unfoldable pub tablesOf : ℕ → List (List Window) → List ℤ
+unfoldable pub tablesOf : ℕ → List (List Placed) → List ℤ
 tablesOf n [] = []
 tablesOf n (windows ∷ rest) = laid (4 * (n * n)) windows ++ tablesOf n rest
 
--- all that follows the schedule, which ends the file. 8: "bytes after the sheet"
+-- "Nothing follows." 8: "bytes after the sheet"
 unfoldable pub ended : List ℕ → List ℤ → ℕ → Part (List ℤ)
-ended file tables next = pick (eqb next (length file)) (got tables next) (refused 8)
+ended file tables next = cond (eqb next (length file)) (got tables next) (refused 8)
 
+-- all that follows the schedule, which ends the file
 unfoldable pub tablesAt : List ℕ → ℕ → ℕ → ℕ → Part (List ℤ)
 tablesAt file n m at =
     andThen (modesAt file n m at) λ modes a.
@@ -121,6 +124,7 @@ pub record Counts : Type 0 where
   pub m : ℕ
   pub positions : ℕ
 
+-- n, m and V in one
 abbrev pub counts : ℕ → ℕ → ℕ → Counts
 counts n m positions = record { n = n; m = m; positions = positions }
 

@@ -1,6 +1,6 @@
 -- What a sheet that is not refused gives its caller, and the steps of the loops that judge it.
 use mathlib.Core.Path.{_≡_, refl, sym, ap, _∙_}
-use mathlib.Core.Bool.{Bool, true, false, _&&_}
+use mathlib.Core.Bool.{Bool, true, false, _&&_, or-true, or-false}
 use mathlib.Core.List.{List, [], _∷_}
 use Prim.Native.Nat.{ℕ, zero, suc, _+_, _-_, _*_, _≤_, _<_}
 use native.Mathlib.Omega.{arith}
@@ -15,7 +15,8 @@ use lib.Signed.{mag, ltZ, leZ}
 use mir.Syntax.{w32}
 use mir.Val.{ofZ}
 use Rattle.tables.proofs.Refusing.{unless-none}
-use Rattle.tables.specs.Sheets.{Sheet, noWindow, places, inLimit, absent, or, admits, all, within, sized, scheduled, admitted, unless, refusal}
+use Rattle.tables.specs.Admitted.{Sizes, Admitted}
+use Rattle.tables.specs.Sheets.{Sheet, noWindow, places, inLimit, absent, admits, all, within, sized, scheduled, admitted, unless, refusal}
 
 -- ---- conjunctions
 pub both : (a b : Bool) → (a && b) ≡ true → (a ≡ true) × (b ≡ true)
@@ -77,20 +78,12 @@ pub absent-is : (z : ℤ) → absent z ≡ true → z ≡ noWindow
 absent-is (pos n) e = absurd (clash (sym e))
 absent-is (negsuc n) e = ap negsuc (eqb-true n 2147483647 e)
 
-or-right : (a b : Bool) → b ≡ true → or a b ≡ true
-or-right true b e = refl
-or-right false b e = e
-
-or-false : (a b : Bool) → b ≡ false → or a b ≡ a
-or-false true b e = refl
-or-false false b e = e
-
 module _ (z : ℤ) where
   pub admits-absent : absent z ≡ true → true ≡ admits z
-  admits-absent e = sym (or-right (inLimit z) (absent z) e)
+  admits-absent e = rw e (sym (or-true (inLimit z)))
 
   admits-other : absent z ≡ false → admits z ≡ inLimit z
-  admits-other e = or-false (inLimit z) (absent z) e
+  admits-other e = rw e (or-false (inLimit z))
 
 low : (z : ℤ) → ltZ z (negsuc 999999) ≡ true → inLimit z ≡ false
 low (pos n) t = absurd (clash (sym t))
@@ -107,16 +100,6 @@ pub admits-high : (z : ℤ) → absent z ≡ false → ltZ z (negsuc 999999) ≡
 admits-high z e t = high z t ∙ sym (admits-other z e)
 
 -- ---- sizes
-pub record Sizes (s : Sheet) : Type 0 where
-  pub some-events : 1 ≤ s .n
-  pub few-events : s .n ≤ 12
-  pub some-modes : 1 ≤ s .m
-  pub few-modes : s .m ≤ 8
-  pub some-positions : 1 ≤ s .positions
-  pub few-positions : s .positions ≤ 16
-  pub long-tables : places (s .n) (s .m) ≤ length (s .tables)
-  pub long-schedule : s .positions ≤ length (s .schedule)
-
 pub within-is : (most k : ℕ) → within most k ≡ true → (1 ≤ k) × (k ≤ most)
 within-is most k e = let b = both (leb 1 k) (leb k most) e in (leb-true 1 k (b .0), leb-true k most (b .1))
 
@@ -155,26 +138,22 @@ sized-yes s z =
     (le-leb (places (s .n) (s .m)) (length (s .tables)) (z .long-tables)))
     (le-leb (s .positions) (length (s .schedule)) (z .long-schedule))
 
--- no more than 144 pairs of events, and 4,608 places
+-- no more than 144 pairs of events
 pub square : (n : ℕ) → n ≤ 12 → n * n ≤ 144
 square n h = mul-le-mul h h
 
+-- THEOREM: the tables of a sheet within its limits need at most 4,608 places
 pub few-places : (n m : ℕ) → n ≤ 12 → m ≤ 8 → places n m ≤ 4608
 few-places n m h g = mul-le-mul {n₁ = 4 * m} {n₂ = 32} (omega arith) (square n h)
 
 -- ---- the whole verdict
-pub record Admitted (s : Sheet) : Type 0 where
-  pub size : Sizes s
-  pub modes : (h : ℕ) → h < s .positions → getD (s .schedule) h 0 < s .m
-  pub values : (k : ℕ) → k < places (s .n) (s .m) → admits (getD (s .tables) k (pos 0)) ≡ true
-
 pub passes : (a b c : Bool) → unless a 4 (unless b 5 (unless c 6 0)) ≡ 0 → (a ≡ true) × (b ≡ true) × (c ≡ true)
 passes a b c e =
     let x = unless-none a 4 (unless b 5 (unless c 6 0)) (omega arith) e in
     let y = unless-none b 5 (unless c 6 0) (omega arith) (x .1) in
     (x .0, y .0, unless-none c 6 0 (omega arith) (y .1) .0)
 
--- a sheet that is not refused
+-- THEOREM: a sheet that is not refused is admitted: sizes, modes and values
 pub accepted : (s : Sheet) → refusal s ≡ 0 → Admitted s
 unfolding refusal scheduled admitted
 accepted s e =

@@ -2,7 +2,7 @@
 use mathlib.Core.Path.{_≡_, refl, sym}
 use mathlib.Core.Logic.{_≢_}
 use mathlib.Core.Bool.{Bool, true, false}
-use Prim.Native.Nat.{ℕ, zero, suc, _<_}
+use Prim.Native.Nat.{ℕ, zero, suc, _≤_, _<_}
 use native.Mathlib.Omega.{arith}
 use Rattle.tables.specs.Sheets.{unless, otherwise}
 
@@ -18,3 +18,12 @@ otherwise-none (suc a) rest e = absurd (omega arith)
 pub otherwise-first : (a k rest : ℕ) → k ≡ a → k ≢ 0 → otherwise a rest ≡ k
 otherwise-first zero k rest e some = absurd (some e)
 otherwise-first (suc a) k rest e some = sym e
+
+-- no refusal is above the largest of their numbers
+pub unless-few : (b : Bool) (k rest most : ℕ) → k ≤ most → rest ≤ most → unless b k rest ≤ most
+unless-few true k rest most here there = there
+unless-few false k rest most here there = here
+
+pub otherwise-few : (a rest most : ℕ) → a ≤ most → rest ≤ most → otherwise a rest ≤ most
+otherwise-few zero rest most here there = there
+otherwise-few (suc a) rest most here there = here

@@ -1,1 +1,3 @@
 pub mod Sheets
+pub mod Admitted
+pub mod Answers

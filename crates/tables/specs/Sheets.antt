@@ -1,7 +1,7 @@
 -- A sheet in memory (document 01, "Windows and plans", "Numbers and room").
 -- Events and positions are counted from 1 and modes and kinds from 0, as in document 01.
 use Prim.Native.Nat.{ℕ, zero, suc, _+_, _-_, _*_}
-use mathlib.Core.Bool.{Bool, true, false, _&&_}
+use mathlib.Core.Bool.{Bool, true, false, _&&_, _||_}
 use mathlib.Core.List.{List, [], _∷_}
 use lib.Dec.{leb, ltb, eqb}
 use lib.ListN.{length, take}
@@ -42,13 +42,9 @@ abbrev pub absent : ℤ → Bool
 absent (pos a) = false
 absent (negsuc a) = eqb a 2147483647
 
-abbrev pub or : Bool → Bool → Bool
-or true b = true
-or false b = b
-
 -- the value is admitted in a table
 abbrev pub admits : ℤ → Bool
-admits v = or (inLimit v) (absent v)
+admits v = inLimit v || absent v
 
 -- the test holds of every element
 unfoldable pub all : {A : Type 0} → (A → Bool) → List A → Bool

@@ -2,8 +2,9 @@
 // This crate knows what is admitted there (refusals 4, 5 and 6); it knows no file and no plan.
 // It renders document 01's "Numbers and room".
 ghost use mathlib.Core.Path.{_≡_};
+ghost use mathlib.Core.Bool.{_&&_};
 ghost use Prim.Native.Nat.{_≤_};
-ghost use lib.Dec.{ltb};
+ghost use lib.Dec.{leb, ltb};
 ghost use lib.ListN.{length, take};
 ghost use Rattle.tables.specs.Sheets.{within, admits, absent, all, sheet, sized, refusal};
 
@@ -19,6 +20,15 @@ pub const MOST_POSITIONS: usize = 16;
 pub const MOST_LIMIT: i32 = 1000000;
 
 pub const NO_WINDOW: i32 = -2147483648;
+
+// The most nodes, V·n of them.
+pub const NODES: usize = MOST_POSITIONS * MOST_EVENTS;
+
+// The most places of the tables, 4·m·n², and so the most windows.
+pub const PLACES: usize = KINDS * MOST_MODES * (MOST_EVENTS * MOST_EVENTS);
+
+// The numbers of the longest circuit: no node is left twice, and an arc is four numbers.
+pub const CIRCUIT: usize = 4 * NODES;
 
 // Whether a number lies from 1 to the most that it may be.
 fn is_within(most: usize, number: usize) -> bool
@@ -73,18 +83,12 @@ fn is_scheduled(m: usize, positions: usize, schedule: &[u8]) -> bool
 {
     let mut h: usize = 0;
     while h < positions {
-        if m <= wide(schedule[h]) {
+        if m <= numbers::wide(schedule[h]) {
             return false;
         }
         h += 1;
     }
     true
-}
-
-fn wide(byte: u8) -> usize
-    ensures { λ r. ⌜ r ≡ byte ⌝ }
-{
-    byte as usize
 }
 
 // Whether the first values of the tables may stand there.
@@ -116,4 +120,11 @@ pub fn judge(n: usize, m: usize, positions: usize, tables: &[i32], schedule: &[u
         return 6;
     }
     0
+}
+
+// Whether two buffers have the places that are needed of each: 9, "a buffer to be written is too short".
+pub fn is_roomy(need: usize, room: usize, other: usize, space: usize) -> bool
+    ensures { λ r. ⌜ r ≡ (leb need room && leb other space) ⌝ }
+{
+    need <= room && other <= space
 }

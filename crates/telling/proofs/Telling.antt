@@ -6,7 +6,7 @@ use Prim.Native.Nat.{ℕ, _+_, _-_, _*_, _≤_, _<_}
 use native.Mathlib.Omega.{arith}
 use native.Mathlib.Nat.{mul-le-mul-right}
 use borrow.Author.Tests.{le-leb}
-use lib.ListN.{length, drop}
+use lib.ListN.{length}
 use Rattle.text.specs.Text.{Puts}
 use Rattle.text.proofs.Puts.{puts-then}
 use Rattle.theory.specs.Arcs.{Arc}
@@ -16,30 +16,37 @@ use Rattle.theory.proofs.Fractions.{lowest-least, low-works}
 use Rattle.theory.proofs.Slopes.{zero-low}
 use Rattle.theory.proofs.Sums.{ups-few}
 use Rattle.tables.specs.Sheets.{Sheet, refusal}
-use Rattle.tables.proofs.Laws.{Admitted, accepted}
+use Rattle.tables.specs.Answers.{Answer}
+use Rattle.tables.specs.Admitted.{Admitted}
+use Rattle.tables.proofs.Laws.{accepted}
 use Rattle.sheet.specs.File.{Part, sheetIn}
 use Rattle.sheet.specs.File as file
 use Rattle.windows.specs.Inequalities.{Runs}
 use Rattle.windows.specs.Arcs.{nodes, arcs}
-use Rattle.windows.specs.Circuits.{numbers, CircuitOf}
+use Rattle.windows.specs.Circuits.{Step, numbers}
 use Rattle.windows.proofs.Limits.{nodes-few, sheet-laid}
 use Rattle.windows.proofs.Steps.{never-both}
 use Rattle.calls.specs.Ask as ask
-use Rattle.ask.specs.Answers as asked-answers
+use Rattle.calls.proofs.Ask.Cases as asked-cases
+use Rattle.calls.proofs.Ask.Cases.{accepted-is, refuted-is}
+use Rattle.ask.specs.Answers.{answerAsked}
 use Rattle.ask.specs.declared.Asked.{Asked}
 use Rattle.ask.specs.declared.Asked.the-variants as asked
 use Rattle.calls.proofs.Ask.Room as ask-room
 use Rattle.calls.specs.Ends as ends
-use Rattle.calls.specs.Ends.{Holds, Finds, Lacks}
-use Rattle.ends.specs.Answers as ended-answers
+use Rattle.calls.specs.Circuits.{CircuitOrNone}
+use Rattle.calls.specs.Ends.{Finds, Lacks}
+use Rattle.calls.proofs.Ends.Cases.{Gives, found-is, none-is, refused-is}
+use Rattle.ends.specs.Answers.{answerEnded, highest}
+use Rattle.ends.proofs.Finishing.{found-answer}
 use Rattle.ends.specs.declared.Ended.{Ended}
 use Rattle.ends.specs.declared.Ended.the-variants as ended
-use Rattle.ends.specs.declared.High as declared-high
+use Rattle.ends.specs.declared.High.{High as High′}
 use Rattle.weights.proofs.Held.{count-few}
 use Rattle.lines.specs.Lines.{low-word, none-word, first-word, second-word, line, circuitLines, highLines, planLines, refusedLine}
 use Rattle.lines.specs.Buffers.{planText, endsText, foundText, noneText}
 use Rattle.telling.specs.Tells.{TellsEnds, TellsNone, Tells}
-use Rattle.telling.specs.Steps.{Stands, Low, PlanStands, Found}
+use Rattle.telling.specs.Steps.{TextStands, Askable, PlanStands, CircuitStands, CircuitsStand}
 use Rattle.lines.proofs.Spelled.{plan-is}
 use Rattle.endings.proofs.Spelled.{circuit-is, high-is}
 
@@ -47,20 +54,10 @@ module _ (s : Sheet) (admitted : refusal s ≡ 0) where
   ok : Admitted s
   ok = accepted s admitted
 
-  -- a circuit in a buffer has at most N arcs
-  pub held-few : (before : List ℕ) (count : ℕ) (after : List ℕ) → Holds s before count after → count ≤ nodes s
-  held-few before count after h = go (h .circuit)
-    where
-      go : (h .steps ≡ []) ⊎ CircuitOf s (h .steps) → count ≤ nodes s
-      go (inl e) = omega (arith, h .counted, ap length e)
-      go (inr c) = count-few s admitted (h .steps) (drop (4 * count) before) after count c (h .counted) (h .written)
-
-  pub few-192 : (before : List ℕ) (count : ℕ) (after : List ℕ) → Holds s before count after → count ≤ 192
-  few-192 before count after h = omega (arith, held-few before count after h, nodes-few s ok)
-
-  -- the same circuit, in a buffer that was empty
-  abbrev bare : (before : List ℕ) (count : ℕ) (after : List ℕ) (h : Holds s before count after) → Holds s [] count (numbers (h .steps) ++ drop (4 * count) [])
-  bare before count after h = record { steps = h .steps; circuit = h .circuit; counted = h .counted; written = refl }
+  -- a circuit has at most N arcs, and so at most 192
+  pub few-192 : (cs : List Step) → CircuitOrNone s cs → length cs ≤ 192
+  few-192 cs (inl e) = omega (arith, ap length e)
+  few-192 cs (inr c) = omega (arith, count-few s admitted cs [] (numbers cs ++ []) (length cs) c refl refl, nodes-few s ok)
 
   -- low's top is at most the sum of a circuit's limits
   low-small : (top bottom : ℕ) (c : List Arc) → 0 < bottom → Lowest top bottom → LowShown (arcs s) bottom top c → top ≤ 192000000
@@ -74,8 +71,8 @@ module _ (s : Sheet) (admitted : refusal s ≡ 0) where
       )
 
   -- THEOREM: low works, and Ask does not refuse it
-  pub low-ready : {first₀ second₀ : List ℕ} {top bottom : ℕ} {high : High} {count₁ count₂ : ℕ} {first second : List ℕ} → Finds s first₀ second₀ top bottom high count₁ count₂ first second → Low s top bottom
-  low-ready {first₀} {second₀} {top} {bottom} {high} f =
+  pub low-askable : {top bottom : ℕ} {high : High} {cs ds : List Step} → Finds s top bottom high cs ds → Askable s top bottom
+  low-askable {top} {bottom} {high} f =
       record {
         admitted = admitted;
         runs = low-works (Runs s) top bottom high (f .range);
@@ -84,118 +81,124 @@ module _ (s : Sheet) (admitted : refusal s ≡ 0) where
         small = omega (arith, low-small top bottom _ (f .range .bottom) (f .range .lowest) (f .low-shown));
       }
 
-  -- ---- the text of ends, and of none
+-- what the lines of a circuit ask of its buffer
+pub stands-few : (s : Sheet) → refusal s ≡ 0 → {cs : List Step} {count : ℕ} {buffer : List ℕ} → CircuitStands s cs count buffer → (count ≤ 192) × (4 * count ≤ length buffer)
+stands-few s admitted {cs} h = let few = few-192 s admitted cs (h .circuit) in (omega (arith, few, h .counted), omega (arith, few, h .counted, h .room))
 
-  module _ {first₀ second₀ first second : List ℕ} {count₁ count₂ : ℕ} where
-    pub found-told : {top bottom : ℕ} {high : High} {o mid out : List ℕ} {at next : ℕ} → Finds s first₀ second₀ top bottom high count₁ count₂ first second
-        → Puts o 0 (foundText top bottom high first count₁ second count₂) at mid → PlanStands s top bottom mid at next out → Stands (TellsEnds s) o next out
-    found-told {top} {bottom} {high} {o} {mid} {out} {at} {next} f x y =
-        let same = ap₂ (λ (a b : List ℕ). endsText top bottom high ++ a ++ b) (circuit-is s first₀ count₁ first (f .first-holds) low-word) (high-is s second₀ count₂ second (f .second-holds) high) in
-        record {
-          text = endsText top bottom high ++ circuitLines low-word (f .first-holds .steps) ++ highLines high (f .second-holds .steps) ++ planLines s bottom (y .rounds) (y .plan);
-          says =
-              record {
-                top = top;
-                bottom = bottom;
-                high = high;
-                count₁ = count₁;
-                count₂ = count₂;
-                first = numbers (f .first-holds .steps) ++ drop (4 * count₁) [];
-                second = numbers (f .second-holds .steps) ++ drop (4 * count₂) [];
-                finds =
-                    record {
-                      range = f .range;
-                      bottom-small = f .bottom-small;
-                      high-small = f .high-small;
-                      first-holds = bare first₀ count₁ first (f .first-holds);
-                      second-holds = bare second₀ count₂ second (f .second-holds);
-                      low-shown = f .low-shown;
-                      high-shown = f .high-shown;
-                    };
-                rounds = y .rounds;
-                plan = y .plan;
-                plan-is = y .plan-is;
-                rounds-are = y .rounds-are;
-                text-is = refl;
-              };
-          puts = puts-then {a = endsText top bottom high ++ circuitLines low-word (f .first-holds .steps) ++ highLines high (f .second-holds .steps)} (subst (λ (t : List ℕ). Puts o 0 t at mid) same x) (y .puts);
-        }
+-- ---- the text of ends, and of none
 
-    pub none-told : {o out : List ℕ} {next : ℕ} → Lacks s first₀ second₀ count₁ count₂ first second → Puts o 0 (noneText first count₁ second count₂) next out → Stands (TellsNone s) o next out
-    none-told {o} {out} {next} l x =
-        let same = ap₂ (λ (a b : List ℕ). line none-word [] ++ a ++ b) (circuit-is s first₀ count₁ first (l .first-holds) first-word) (circuit-is s second₀ count₂ second (l .second-holds) second-word) in
-        record {
-          text = line none-word [] ++ circuitLines first-word (l .first-holds .steps) ++ circuitLines second-word (l .second-holds .steps);
-          says =
-              record {
-                count₁ = count₁;
-                count₂ = count₂;
-                first = numbers (l .first-holds .steps) ++ drop (4 * count₁) [];
-                second = numbers (l .second-holds .steps) ++ drop (4 * count₂) [];
-                lacks = record { never = l .never; first-holds = bare first₀ count₁ first (l .first-holds); second-holds = bare second₀ count₂ second (l .second-holds); none-shown = l .none-shown };
-                text-is = refl;
-              };
-          puts = subst (λ (t : List ℕ). Puts o 0 t next out) same x;
-        }
+module _ (s : Sheet) {first second : List ℕ} {count₁ count₂ : ℕ} where
+  pub found-told : {top bottom : ℕ} {high : High} {o mid out : List ℕ} {at next : ℕ} → CircuitsStand s (Finds s top bottom high) first count₁ second count₂
+      → Puts o 0 (foundText top bottom high first count₁ second count₂) at mid → PlanStands s top bottom mid at next out → TextStands (TellsEnds s) o next out
+  found-told {top} {bottom} {high} {o} {mid} {out} {at} {next} g x y =
+      let f = g .first-stands in
+      let l = g .second-stands in
+      let same = ap₂ (λ (a b : List ℕ). endsText top bottom high ++ a ++ b) (circuit-is (g .cs) (f .before) first count₁ (f .counted) (f .is) low-word) (high-is (g .ds) (l .before) second count₂ (l .counted) (l .is) high) in
+      record {
+        text = endsText top bottom high ++ circuitLines low-word (g .cs) ++ highLines high (g .ds) ++ planLines s bottom (y .rounds) (y .plan);
+        says =
+            record {
+              top = top;
+              bottom = bottom;
+              high = high;
+              first = g .cs;
+              second = g .ds;
+              finds = g .shown;
+              rounds = y .rounds;
+              plan = y .plan;
+              plan-is = y .plan-is;
+              rounds-are = y .rounds-are;
+              text-is = refl;
+            };
+        puts = puts-then {a = endsText top bottom high ++ circuitLines low-word (g .cs) ++ highLines high (g .ds)} (subst (λ (t : List ℕ). Puts o 0 t at mid) same x) (y .puts);
+      }
 
-  -- a sheet tells of its ends or of none
-  pub tells-ends : {o out : List ℕ} {next : ℕ} → Stands (TellsEnds s) o next out → Stands (λ text. TellsEnds s text ⊎ TellsNone s text) o next out
+  pub none-told : {o out : List ℕ} {next : ℕ} → CircuitsStand s (Lacks s) first count₁ second count₂ → Puts o 0 (noneText first count₁ second count₂) next out → TextStands (TellsNone s) o next out
+  none-told {o} {out} {next} g x =
+      let f = g .first-stands in
+      let l = g .second-stands in
+      let same = ap₂ (λ (a b : List ℕ). line none-word [] ++ a ++ b) (circuit-is (g .cs) (f .before) first count₁ (f .counted) (f .is) first-word) (circuit-is (g .ds) (l .before) second count₂ (l .counted) (l .is) second-word) in
+      record {
+        text = line none-word [] ++ circuitLines first-word (g .cs) ++ circuitLines second-word (g .ds);
+        says = record { first = g .cs; second = g .ds; lacks = g .shown; text-is = refl };
+        puts = subst (λ (t : List ℕ). Puts o 0 t next out) same x;
+      }
+
+-- a sheet tells of its ends or of none
+module _ (s : Sheet) where
+  pub tells-ends : {o out : List ℕ} {next : ℕ} → TextStands (TellsEnds s) o next out → TextStands (λ text. TellsEnds s text ⊎ TellsNone s text) o next out
   tells-ends x = record { text = x .text; says = inl (x .says); puts = x .puts }
 
-  pub tells-none : {o out : List ℕ} {next : ℕ} → Stands (TellsNone s) o next out → Stands (λ text. TellsEnds s text ⊎ TellsNone s text) o next out
+  pub tells-none : {o out : List ℕ} {next : ℕ} → TextStands (TellsNone s) o next out → TextStands (λ text. TellsEnds s text ⊎ TellsNone s text) o next out
   tells-none x = record { text = x .text; says = inr (x .says); puts = x .puts }
 
 -- ---- the calls' answers
 
 -- the reader's
-pub tells-refused : (bytes : List ℕ) (k : ℕ) → sheetIn bytes ≡ file.refused k → {o out : List ℕ} {next : ℕ} → Puts o 0 (refusedLine k) next out → Stands (Tells (sheetIn bytes)) o next out
+pub tells-refused : (bytes : List ℕ) (k : ℕ) → sheetIn bytes ≡ file.refused k → {o out : List ℕ} {next : ℕ} → Puts o 0 (refusedLine k) next out → TextStands (Tells (sheetIn bytes)) o next out
 tells-refused bytes k e x = record { text = refusedLine k; says = subst (λ (w : Part Sheet). Tells w (refusedLine k)) (sym e) refl; puts = x }
 
-pub tells-got : (bytes : List ℕ) (s : Sheet) (place : ℕ) → sheetIn bytes ≡ file.got s place → {o out : List ℕ} {next : ℕ} → Stands (λ text. TellsEnds s text ⊎ TellsNone s text) o next out → Stands (Tells (sheetIn bytes)) o next out
+pub tells-got : (bytes : List ℕ) (s : Sheet) (place : ℕ) → sheetIn bytes ≡ file.got s place → {o out : List ℕ} {next : ℕ} → TextStands (λ text. TellsEnds s text ⊎ TellsNone s text) o next out → TextStands (Tells (sheetIn bytes)) o next out
 tells-got bytes s place e x = record { text = x .text; says = subst (λ (w : Part Sheet). Tells w (x .text)) (sym e) (x .says); puts = x .puts }
 
 -- Ask's at low
-module _ (s : Sheet) (top bottom : ℕ) (l : Low s top bottom) (plan₀ circuit₀ : List ℕ) (long : length plan₀ ≡ 192) (wide : length circuit₀ ≡ 768) (a : Asked) (plan circuit : List ℕ)
-    (o : ask.Outcome s top bottom plan₀ circuit₀ (asked-answers.answer a) plan circuit) where
-  seen : (b : Asked) → a ≡ b → ask.Outcome s top bottom plan₀ circuit₀ (asked-answers.answer b) plan circuit
-  seen b e = subst (λ (x : Asked). ask.Outcome s top bottom plan₀ circuit₀ (asked-answers.answer x) plan circuit) e o
+module _ (s : Sheet) (top bottom : ℕ) (l : Askable s top bottom) (plan₀ circuit₀ : List ℕ) (long : length plan₀ ≡ 192) (wide : length circuit₀ ≡ 768) (a : Asked) (plan circuit : List ℕ)
+    (o : ask.Outcome s top bottom plan₀ circuit₀ (answerAsked a) plan circuit) where
+  seen : (b : Asked) → a ≡ b → ask.Outcome s top bottom plan₀ circuit₀ (answerAsked b) plan circuit
+  seen b e = subst (λ (x : Asked). ask.Outcome s top bottom plan₀ circuit₀ (answerAsked x) plan circuit) e o
 
   pub asked-plan : (rounds : ℕ) → a ≡ asked.Accepted rounds → length plan ≡ 192 → {mid out : List ℕ} {at next : ℕ} → Puts mid at (planText bottom rounds plan (s .n) (s .positions)) next out → PlanStands s top bottom mid at next out
   asked-plan rounds e long′ {mid} {out} {at} {next} x =
-      let h = seen (asked.Accepted rounds) e in
+      let h = accepted-is rounds (seen (asked.Accepted rounds) e) .1 in
       record {
         rounds = rounds;
         plan = plan;
-        plan-is = h .1 .plan-is;
-        rounds-are = h .1 .rounds-are;
+        plan-is = h .plan-is;
+        rounds-are = h .rounds-are;
         puts = subst (λ (t : List ℕ). Puts mid at t next out) (plan-is s plan (omega (arith, nodes-few s (accepted s (l .admitted)))) bottom rounds) x;
       }
 
   pub asked-refuted : (k : ℕ) → a ≡ asked.Refuted k → ⊥
   asked-refuted k e =
-      let h = seen (asked.Refuted k) e in
-      never-both s (accepted s (l .admitted) .size .some-positions) top bottom (l .runs .0) (l .runs .1) (h .1 .steps) (h .1 .refutes)
+      let h = refuted-is k (seen (asked.Refuted k) e) in
+      never-both s (accepted s (l .admitted) .size .some-positions) top bottom (l .runs .0) (l .runs .1) (h .1) (h .3 .refutes)
 
   pub asked-refused : (k : ℕ) → a ≡ asked.Refused k → ⊥
   asked-refused k e =
-      let h = seen (asked.Refused k) e in
+      let h = asked-cases.refused-is k (seen (asked.Refused k) e) in
       h .1 (sym (h .0) ∙ ask-room.unrefused s (l .admitted) plan₀ circuit₀ long wide top bottom (l .some) (omega (arith, l .few)) (l .small))
 
 -- Ends'
 module _ (s : Sheet) (admitted : refusal s ≡ 0) (first₀ second₀ : List ℕ) (long : length first₀ ≡ 768) (wide : length second₀ ≡ 768) (a : Ended) (first second : List ℕ)
-    (o : ends.Outcome s first₀ second₀ (ended-answers.answer a) first second) where
-  ended-as : (b : Ended) → a ≡ b → ends.Outcome s first₀ second₀ (ended-answers.answer b) first second
-  ended-as b e = subst (λ (x : Ended). ends.Outcome s first₀ second₀ (ended-answers.answer x) first second) e o
+    (o : ends.Outcome s first₀ second₀ (answerEnded a) first second) where
+  ended-as : (b : Ended) → a ≡ b → ends.Outcome s first₀ second₀ (answerEnded b) first second
+  ended-as b e = subst (λ (x : Ended). ends.Outcome s first₀ second₀ (answerEnded x) first second) e o
 
-  pub ended-found : (top bottom : ℕ) (h : declared-high.High) (count₁ count₂ : ℕ) → a ≡ ended.Found top bottom h count₁ count₂ → length first ≡ 768 → length second ≡ 768 → Found s top bottom (ended-answers.highest h) first count₁ second count₂
-  ended-found top bottom h count₁ count₂ e room₁ room₂ =
-      record { admitted = admitted; first₀ = first₀; second₀ = second₀; finds = ended-as (ended.Found top bottom h count₁ count₂) e .1; first-room = room₁; second-room = room₂ }
+  -- what Ends gives stands in the two buffers
+  stood : {Shows : List Step → List Step → Type 0} {count₁ count₂ : ℕ} → ((cs ds : List Step) → Shows cs ds → CircuitOrNone s cs × CircuitOrNone s ds) → Gives s Shows first₀ second₀ count₁ count₂ first second
+      → length first ≡ 768 → length second ≡ 768 → CircuitsStand s Shows first count₁ second count₂
+  stood circuits g room₁ room₂ =
+      let c = circuits (g .cs) (g .ds) (g .shown) in
+      record {
+        admitted = admitted;
+        cs = g .cs;
+        ds = g .ds;
+        shown = g .shown;
+        first-stands = record { circuit = c .0; counted = g .counted₁; before = first₀; is = g .first-is; room = room₁ };
+        second-stands = record { circuit = c .1; counted = g .counted₂; before = second₀; is = g .second-is; room = room₂ };
+      }
 
-  pub ended-none : (count₁ count₂ : ℕ) → a ≡ ended.None count₁ count₂ → Lacks s first₀ second₀ count₁ count₂ first second
-  ended-none count₁ count₂ e = ended-as (ended.None count₁ count₂) e .1
+  pub ended-found : (top bottom : ℕ) (h : High′) (count₁ count₂ : ℕ) → a ≡ ended.Found top bottom h count₁ count₂ → length first ≡ 768 → length second ≡ 768
+      → CircuitsStand s (Finds s top bottom (highest h)) first count₁ second count₂
+  ended-found top bottom h count₁ count₂ e =
+      stood (λ cs ds f. (f .first-circuit, f .second-circuit))
+      (found-is top bottom (highest h) count₁ count₂ (subst (λ (x : Answer). ends.Outcome s first₀ second₀ x first second) (found-answer top bottom h _ _ count₁ count₂ refl refl) (ended-as (ended.Found top bottom h count₁ count₂) e)))
+
+  pub ended-none : (count₁ count₂ : ℕ) → a ≡ ended.None count₁ count₂ → length first ≡ 768 → length second ≡ 768 → CircuitsStand s (Lacks s) first count₁ second count₂
+  ended-none count₁ count₂ e = stood (λ cs ds l. (l .first-circuit, l .second-circuit)) (none-is count₁ count₂ (ended-as (ended.None count₁ count₂) e))
 
   pub ended-refused : (k : ℕ) → a ≡ ended.Refused k → ⊥
   ended-refused k e =
-      let h = ended-as (ended.Refused k) e in
+      let h = refused-is k (ended-as (ended.Refused k) e) in
       let few = nodes-few s (accepted s admitted) in
       h .1 (sym (h .0) ∙ rw (admitted, le-leb (4 * nodes s) (length first₀) (omega arith), le-leb (4 * nodes s) (length second₀) (omega arith)) refl)

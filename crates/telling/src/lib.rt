@@ -15,9 +15,10 @@ ghost use Prim.Native.Nat.{_≤_};
 ghost use lib.ListN.{length};
 ghost use Rattle.tables.specs.Sheets.{sheet, refusal};
 ghost use Rattle.sheet.specs.File.{sheetIn};
+ghost use Rattle.calls.specs.Ends.{Finds};
 ghost use Rattle.ends.specs.Answers.{highest};
 ghost use Rattle.telling.specs.Tells.{TellsEnds, TellsNone, Tells};
-ghost use Rattle.telling.specs.Steps.{Stands, Low, PlanStands, Found};
+ghost use Rattle.telling.specs.Steps.{TextStands, Askable, PlanStands, CircuitsStand};
 
 // Asks for the plan at low, which works, and puts its lines.
 fn tell_plan(
@@ -33,7 +34,7 @@ fn tell_plan(
     out: &mut [u8],
     at: usize,
 ) -> usize
-    requires { ⌜ Low (sheet n m positions (now tables) (now schedule)) top bottom × (length (now plan) ≡ 192) × (length (now circuit) ≡ 768) × (at ≤ 40000) ⌝ }
+    requires { ⌜ Askable (sheet n m positions (now tables) (now schedule)) top bottom × (length (now plan) ≡ 192) × (length (now circuit) ≡ 768) × (at ≤ 40000) ⌝ }
     ensures { λ r. ⌜ PlanStands (sheet n m positions (now (tables .entry)) (now (schedule .entry))) top bottom (now (out .entry)) at r (now (out .exit)) ⌝ }
 {
     match ask::ask(
@@ -48,6 +49,7 @@ fn tell_plan(
         circuit,
     ) {
         Asked::Accepted { rounds } => put_plan(out, at, bottom, rounds, plan, n, positions),
+        // neither is ever taken: low works, and an admitted sheet in this room is not refused there
         Asked::Refuted { arcs: _ } => at,
         Asked::Refused { number: _ } => at,
     }
@@ -69,12 +71,12 @@ fn tell_found(
     others: usize,
     out: &mut [u8],
 ) -> usize
-    requires { ⌜ Found (sheet n m positions (now tables) (now schedule)) top bottom (highest high) (now first) arcs (now second) others ⌝ }
-    ensures { λ r. ⌜ Stands (TellsEnds (sheet n m positions (now (tables .entry)) (now (schedule .entry)))) (now (out .entry)) r (now (out .exit)) ⌝ }
+    requires { ⌜ CircuitsStand (sheet n m positions (now tables) (now schedule)) (Finds (sheet n m positions (now tables) (now schedule)) top bottom (highest high)) (now first) arcs (now second) others ⌝ }
+    ensures { λ r. ⌜ TextStands (TellsEnds (sheet n m positions (now (tables .entry)) (now (schedule .entry)))) (now (out .entry)) r (now (out .exit)) ⌝ }
 {
     let at = put_found(out, top, bottom, high, first, arcs, second, others);
-    let mut plan = [0u64; 192];
-    let mut circuit = [0u8; 768];
+    let mut plan = [0u64; tables::NODES];
+    let mut circuit = [0u8; tables::CIRCUIT];
     tell_plan(
         n,
         m,
@@ -102,7 +104,7 @@ fn tell_sheet(
     out: &mut [u8],
 ) -> usize
     requires { ⌜ (refusal (sheet n m positions (now tables) (now schedule)) ≡ 0) × (length (now one) ≡ 768) × (length (now two) ≡ 768) ⌝ }
-    ensures { λ r. ⌜ Stands (λ text. TellsEnds (sheet n m positions (now (tables .entry)) (now (schedule .entry))) text ⊎ TellsNone (sheet n m positions (now (tables .entry)) (now (schedule .entry))) text) (now (out .entry)) r (now (out .exit)) ⌝ }
+    ensures { λ r. ⌜ TextStands (λ text. TellsEnds (sheet n m positions (now (tables .entry)) (now (schedule .entry))) text ⊎ TellsNone (sheet n m positions (now (tables .entry)) (now (schedule .entry))) text) (now (out .entry)) r (now (out .exit)) ⌝ }
 {
     match ends::ends(n, m, positions, tables, schedule, one, two) {
         Ended::Found {
@@ -127,11 +129,12 @@ fn tell_sheet(
             out,
         ),
         Ended::None { first, second } => put_none(out, one, first, two, second),
+        // never taken: the sheet is admitted, and there is room
         Ended::Refused { number: _ } => 0,
     }
 }
 
-// Makes room for two circuits of 192 arcs.
+// Makes room for two circuits, the longest there are.
 fn tell_admitted(
     n: usize,
     m: usize,
@@ -141,10 +144,10 @@ fn tell_admitted(
     out: &mut [u8],
 ) -> usize
     requires { ⌜ refusal (sheet n m positions (now tables) (now schedule)) ≡ 0 ⌝ }
-    ensures { λ r. ⌜ Stands (λ text. TellsEnds (sheet n m positions (now (tables .entry)) (now (schedule .entry))) text ⊎ TellsNone (sheet n m positions (now (tables .entry)) (now (schedule .entry))) text) (now (out .entry)) r (now (out .exit)) ⌝ }
+    ensures { λ r. ⌜ TextStands (λ text. TellsEnds (sheet n m positions (now (tables .entry)) (now (schedule .entry))) text ⊎ TellsNone (sheet n m positions (now (tables .entry)) (now (schedule .entry))) text) (now (out .entry)) r (now (out .exit)) ⌝ }
 {
-    let mut first = [0u8; 768];
-    let mut second = [0u8; 768];
+    let mut first = [0u8; tables::CIRCUIT];
+    let mut second = [0u8; tables::CIRCUIT];
     tell_sheet(
         n,
         m,
@@ -160,7 +163,7 @@ fn tell_admitted(
 // Reads the sheet, and tells of it in the first places of the room that it was read into, or of its refusal.
 fn tell_read(file: &[u8], tables: &mut [i32], schedule: &mut [u8], out: &mut [u8]) -> usize
     requires { ⌜ (length (now tables) ≡ 4608) × (length (now schedule) ≡ 16) ⌝ }
-    ensures { λ r. ⌜ Stands (Tells (sheetIn (now (file .entry)))) (now (out .entry)) r (now (out .exit)) ⌝ }
+    ensures { λ r. ⌜ TextStands (Tells (sheetIn (now (file .entry)))) (now (out .entry)) r (now (out .exit)) ⌝ }
 {
     let read = reader::read_sheet(file, tables, schedule);
     match read {
@@ -181,9 +184,9 @@ fn tell_read(file: &[u8], tables: &mut [i32], schedule: &mut [u8], out: &mut [u8
 
 // Makes room for the largest sheet.
 pub fn tell(file: &[u8], out: &mut [u8]) -> usize
-    ensures { λ r. ⌜ Stands (Tells (sheetIn (now (file .entry)))) (now (out .entry)) r (now (out .exit)) ⌝ }
+    ensures { λ r. ⌜ TextStands (Tells (sheetIn (now (file .entry)))) (now (out .entry)) r (now (out .exit)) ⌝ }
 {
-    let mut tables = [0i32; 4608];
-    let mut schedule = [0u8; 16];
+    let mut tables = [0i32; tables::PLACES];
+    let mut schedule = [0u8; tables::MOST_POSITIONS];
     tell_read(file, &mut tables, &mut schedule, out)
 }

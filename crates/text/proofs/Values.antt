@@ -5,14 +5,9 @@ use Prim.Native.Nat.{ℕ, zero, suc, _+_, _-_, _*_, _/_, _%_, _^_, _≤_, _<_}
 use native.Mathlib.Omega.{arith}
 use native.Mathlib.Decide.{decLt}
 use native.Mathlib.Nat.{div-add-mod', div-lt-iff-lt-mul}
-use Rattle.text.specs.Text.{spelled, decimal}
+use Rattle.text.specs.Text.{spelled, decimal, valued}
 use lib.ListN.{length}
 use Rattle.text.proofs.Stores.{spelled-one, spelled-more, length-more}
-
--- the value of a row of digits, after the value before it
-unfoldable pub valued : ℕ → List ℕ → ℕ
-valued v [] = v
-valued v (d ∷ ds) = valued (v * 10 + (d - 48)) ds
 
 valued-append : (v : ℕ) (xs ys : List ℕ) → valued v (xs ++ ys) ≡ valued (valued v xs) ys
 unfolding valued

@@ -2,7 +2,7 @@
 use mathlib.Core.Path.{_≡_}
 use mathlib.Core.Bool.{cond}
 use mathlib.Core.List.{List, [], _∷_, _++_}
-use Prim.Native.Nat.{ℕ, zero, suc, _+_, _/_, _%_}
+use Prim.Native.Nat.{ℕ, zero, suc, _+_, _-_, _*_, _/_, _%_}
 use lib.Dec.{ltb}
 use lib.ListN.{length}
 use lib.Seq.{sets}
@@ -16,11 +16,18 @@ spelled (suc left) v = cond (ltb v 10) ((48 + v) ∷ []) (spelled left (v / 10) 
 abbrev pub decimal : ℕ → List ℕ
 decimal v = spelled 20 v
 
+-- "one space"
 abbrev pub space : ℕ
 space = 32
 
+-- "one line feed"
 abbrev pub feed : ℕ
 feed = 10
+
+-- the value of a row of digits, after the value before it
+unfoldable pub valued : ℕ → List ℕ → ℕ
+valued v [] = v
+valued v (d ∷ ds) = valued (v * 10 + (d - 48)) ds
 
 -- the text stands from `at` on, as far as the buffer reaches, and `next` is the place after it
 pub record Puts (out₀ : List ℕ) (at : ℕ) (text : List ℕ) (next : ℕ) (out : List ℕ) : Type 0 where

@@ -90,6 +90,7 @@ module _ (N B K : ℕ) (arcs : List Arc) (laid : Laid N B K arcs) where
   shown-low-small a b c some pos low at-zero = let one : b ≡ 1 = low b (dvd-zero b) (dvd-refl b) in omega arith
   shown-low-small a b c some pos low (above-zero above ring falls zero-there) = low-small c ring a b low falls (zero-low c a b pos falls zero-there) .1
 
+  -- THEOREM: and so is high's
   pub shown-high-small : (a b : ℕ) (c : List Arc) → 0 < b → Lowest a b → HighShown arcs (up-to a b) c → b ≤ K
   shown-high-small a b c pos low (limit ring climbs zero-there) = high-small c ring a b low climbs (zero-high c a b pos climbs zero-there) .1
 

@@ -61,6 +61,7 @@ multiple-lowest a b c d low m =
     let bottom : d ≡ 1 * b = m .bottom ∙ ap (λ (k : ℕ). k * b) o in
     (omega arith, omega arith)
 
+-- THEOREM: equal fractions in lowest terms have the same top and bottom; so zero is 0/1
 pub lowest-same : (a b c d : ℕ) → Lowest a b → Lowest c d → a * d ≡ c * b → (a ≡ c) × (b ≡ d)
 lowest-same a b c d low low′ e = multiple-lowest a b c d low′ (multiple a b d c low e)
 

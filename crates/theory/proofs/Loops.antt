@@ -181,15 +181,16 @@ module _ (arcs : List Arc) (p q : ℕ) where
         | inr c ↦ inr c
       ]
 
-  -- two counts of rounds are equal, and below N
+  -- THEOREM: two counts of rounds are equal
   pub rounds-same : (N r k : ℕ) → Rounds arcs p q N r → Rounds arcs p q N k → r ≡ k
   rounds-same N r k a b = omega (arith, a .least k (b .still), b .least r (a .still))
 
+  -- THEOREM: the count lies below N: "from 0 to N-1"
   pub rounds-few : (N r : ℕ) → 0 < N → Within N arcs → Rounds arcs p q N r → r < N
   rounds-few N r some within a =
       omega (arith, a .least (pred N) (works-still N within (still-works N r within (a .still))))
 
-  -- the least of the rounds up to r where the tables stand still
+  -- THEOREM: where the tables stand still there is a least such round
   pub rounds-found : (N r : ℕ) → Within N arcs → Still arcs p q N r → (k : ℕ) × Rounds arcs p q N k
   rounds-found N zero within s = (0, record { still = s; least = λ k t. omega arith })
   rounds-found N (suc r) within s =

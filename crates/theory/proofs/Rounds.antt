@@ -69,7 +69,7 @@ module _ (arcs : List Arc) (p q : ℕ) where
   pub table-mono : (v : ℕ) {r k : ℕ} → r ≤ k → table arcs p q r v ≤ table arcs p q k v
   table-mono v {r} {k} h = le-ind (λ k. table arcs p q r v ≤ table arcs p q k v) (omega arith) (λ m l ih. omega (arith, table-grows m v)) k h
 
-  -- no plan has a time below any table
+  -- THEOREM: no plan has a time below any table
   pub table-least : (y : ℕ → ℕ) → Plan arcs p q y → (r v : ℕ) → table arcs p q r v ≤ y v
   unfolding table
   table-least y plan zero v = omega arith

@@ -20,10 +20,12 @@ at-most-trans a b p q c d pos h k = le-of-mul-le-mul-left {k = q} (omega (arith,
 -- ---- the total is linear in p and q
 
 module _ (p q : ℕ) where
+  -- THEOREM: what a circuit adds at p/q
   pub total-rise : (c : List Arc) → total (rise p q) c ≡ q * ups c + p * forths c
   total-rise [] = omega arith
   total-rise (a ∷ c) = omega (arith, total-rise c)
 
+  -- THEOREM: and what it takes away: so its total with q = 1 is W + c·p
   pub total-fall : (c : List Arc) → total (fall p q) c ≡ q * downs c + p * backs c
   total-fall [] = omega arith
   total-fall (a ∷ c) = omega (arith, total-fall c)

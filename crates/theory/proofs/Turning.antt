@@ -1,7 +1,7 @@
 -- A circuit begun at another of its nodes is the same circuit; so one can begin at its smallest node.
 use mathlib.Core.Path.{_≡_, refl, sym, ap, subst}
 use mathlib.Core.Logic.{_≢_}
-use mathlib.Core.List.{List, [], _∷_, _++_, map}
+use mathlib.Core.List.{List, [], _∷_, _++_, map, append-nil}
 use Prim.Native.Nat.{ℕ, _+_, _≤_}
 use native.Mathlib.Omega.{arith}
 use native.Mathlib.Decide.{decLe}
@@ -32,12 +32,8 @@ distinct-insert : (x : ℕ) (xs ys : List ℕ) → Fresh x (xs ++ ys) → Distin
 distinct-insert x [] ys f d = (f, d)
 distinct-insert x (y ∷ xs) ys f d = (fresh-insert y x xs ys (λ (e : y ≡ x). f .0 (sym e)) (d .0), distinct-insert x xs ys (f .1) (d .1))
 
-append-none : {A : Type 0} (xs : List A) → xs ++ [] ≡ xs
-append-none [] = refl
-append-none {A} (x ∷ xs) = ap (λ (l : List A). x ∷ l) (append-none xs)
-
 distinct-swap : (xs ys : List ℕ) → Distinct (xs ++ ys) → Distinct (ys ++ xs)
-distinct-swap [] ys d = subst Distinct (sym (append-none ys)) d
+distinct-swap [] ys d = subst Distinct (sym (append-nil ys)) d
 distinct-swap (x ∷ xs) ys d =
     distinct-insert x ys xs (fresh-join x ys xs (fresh-back x xs ys (d .0)) (fresh-front x xs ys (d .0))) (distinct-swap xs ys (d .1))
 

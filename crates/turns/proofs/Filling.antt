@@ -1,10 +1,10 @@
 -- Times written into places, one after the other: those below k are written, and all else of the first `count` and past them is as it was.
 use mathlib.Core.Path.{_≡_, refl, sym, _∙_}
 use mathlib.Core.List.{List}
-use Prim.Native.Nat.{ℕ, _+_, _<_}
+use Prim.Native.Nat.{ℕ, zero, suc, _+_, _<_}
 use native.Mathlib.Omega.{arith}
 use native.Mathlib.Decide.{decLt}
-use lib.ListN.{length, getD, set, drop, length-set}
+use lib.ListN.{length, getD, set, drop, replicate, length-set}
 use lib.Seq.{getD-set-same, getD-set-other, drop-set-lt, ext-getD}
 use Rattle.turns.specs.Rounds.{Filled}
 
@@ -33,3 +33,9 @@ filled times count k old new f e = record { long = f .long; inside = λ v h. f .
 -- all places of a table
 pub filled-whole : (times old new : List ℕ) → length times ≡ length old → Filled times (length times) old new → new ≡ times
 filled-whole times old new e f = let long : length new ≡ length times = f .long ∙ sym e in ext-getD 0 new times long (λ v h. f .inside v (omega arith))
+
+-- every element of a repeat of 0 is 0
+pub zero-at : (n i : ℕ) → _≡_ {A = ℕ} (getD (replicate n 0) i 0) 0
+zero-at zero i = refl
+zero-at (suc n) zero = refl
+zero-at (suc n) (suc i) = zero-at n i

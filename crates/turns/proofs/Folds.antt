@@ -9,11 +9,27 @@ use lib.ListN.{length, getD, set, take, drop}
 use lib.Seq.{drop-cons}
 use Rattle.windows.specs.Arcs.{up, down}
 use Rattle.layout.specs.declared.Edge.{Edge}
-use Rattle.layout.specs.declared.Window.{Window as Item}
-use Rattle.layout.specs.Records.{item, nothing, itemAt}
+use Rattle.layout.specs.declared.Record.{Record}
+use Rattle.layout.specs.Records.{blank, listed}
 use Rattle.layout.specs.Edges.{byKind}
-use Rattle.turns.specs.declared.Stand.{Stand}
-use Rattle.turns.specs.Rounds.{Named, named, Board, board, asks, raise, after, span, passed, Able, Fine, Stands, Boards}
+use Rattle.turns.specs.declared.Site.{Site}
+use Rattle.turns.specs.Rounds.{Named, named, Board, board, asks, raise, after, span, passed, Able, Fine}
+
+-- The position's events and the next one's stand among N nodes.
+pub record Sited (at : Site) (n N : ℕ) : Type 0 where
+  pub here-in : at .here + n ≤ N
+  pub next-in : at .next + n ≤ N
+  pub few : N ≤ 192
+  pub cross-small : at .cross ≤ 1000000000
+  pub q-small : at .q ≤ 1000
+  pub mark-small : at .mark ≤ 69120
+
+-- The old times are small, and there is room for N times, old and new, and for a row of N marks.
+pub record Boards (old new marks : List ℕ) (row N : ℕ) : Type 0 where
+  pub old-long : N ≤ length old
+  pub new-long : N ≤ length new
+  pub marks-long : row + N ≤ length marks
+  pub small : (v : ℕ) → v < N → getD old v 0 ≤ 1000000000000000
 
 -- ---- folds
 module _ (old : List ℕ) (row : ℕ) where
@@ -29,31 +45,31 @@ span-snoc {A} f (suc m) a k e = ap (λ (l : List A). f a ∷ l) (span-snoc f m (
 
 -- ---- a part of the list
 -- no record yet, one record more, and all of them
-pub pass-none : (old : List ℕ) (row : ℕ) (at : Stand) (ws : List Item) (k i : ℕ) (b : Board) → 0 ≡ i → b ≡ after old row (passed at k (take i ws)) b
+pub pass-none : (old : List ℕ) (row : ℕ) (at : Site) (ws : List Record) (k i : ℕ) (b : Board) → 0 ≡ i → b ≡ after old row (passed at k (take i ws)) b
 unfolding after
 pass-none old row at ws k i b e = rw (← e)
 
-pub pass-more : (old : List ℕ) (row : ℕ) (at : Stand) (ws : List Item) (k i : ℕ) (b : Board) → i < length ws
-    → raise old row (named (getD ws i (item nothing)) at (k + i)) (after old row (passed at k (take i ws)) b) ≡ after old row (passed at k (take (suc i) ws)) b
+pub pass-more : (old : List ℕ) (row : ℕ) (at : Site) (ws : List Record) (k i : ℕ) (b : Board) → i < length ws
+    → raise old row (named (listed ws i) at (k + i)) (after old row (passed at k (take i ws)) b) ≡ after old row (passed at k (take (suc i) ws)) b
 unfolding after
 pass-more old row at [] k i b h = absurd (omega arith)
 pass-more old row at (w ∷ ws) k zero b h = let e : k + 0 ≡ k = omega arith in ap (λ (x : ℕ). raise old row (named w at x) b) e
 pass-more old row at (w ∷ ws) k (suc i) b h =
     let e : k + suc i ≡ suc k + i = omega arith in
-    ap (λ (x : ℕ). raise old row (named (getD ws i (item nothing)) at x) (after old row (passed at (suc k) (take i ws)) (raise old row (named w at k) b))) e
+    ap (λ (x : ℕ). raise old row (named (listed ws i) at x) (after old row (passed at (suc k) (take i ws)) (raise old row (named w at k) b))) e
     ∙ pass-more old row at ws (suc k) i (raise old row (named w at k) b) (omega arith)
 
-pub pass-all : (old : List ℕ) (row : ℕ) (at : Stand) (ws : List Item) (k : ℕ) (b : Board) → after old row (passed at k (take (length ws) ws)) b ≡ after old row (passed at k ws) b
+pub pass-all : (old : List ℕ) (row : ℕ) (at : Site) (ws : List Record) (k : ℕ) (b : Board) → after old row (passed at k (take (length ws) ws)) b ≡ after old row (passed at k ws) b
 unfolding after
 pass-all old row at [] k b = refl
 pass-all old row at (w ∷ ws) k b = pass-all old row at ws (suc k) (raise old row (named w at k) b)
 
 -- the part of the list from a on is its records by their places
-pub pass-part : (at : Stand) (l : List Item) (m a : ℕ) → a + m ≤ length l → passed at a (take m (drop a l)) ≡ span (λ k. named (itemAt l k) at k) a m
+pub pass-part : (at : Site) (l : List Record) (m a : ℕ) → a + m ≤ length l → passed at a (take m (drop a l)) ≡ span (λ k. named (listed l k) at k) a m
 unfolding span
 pass-part at l zero a h = refl
 pass-part at l (suc m) a h =
-    ap (λ (x : List Item). passed at a (take (suc m) x)) (drop-cons l a (item nothing) (omega arith)) ∙ ap (λ (x : List Named). named (itemAt l a) at a ∷ x) (pass-part at l m (suc a) (omega arith))
+    ap (λ (x : List Record). passed at a (take (suc m) x)) (drop-cons l a blank (omega arith)) ∙ ap (λ (x : List Named). named (listed l a) at a ∷ x) (pass-part at l m (suc a) (omega arith))
 
 -- ---- an arc's nodes and weight, by its kind
 pub record Inside (e : Edge) (N m : ℕ) : Type 0 where
@@ -62,7 +78,7 @@ pub record Inside (e : Edge) (N m : ℕ) : Type 0 where
   pub rise : e .rise ≤ m
   pub fall : e .fall ≤ m
 
-pub edge-inside : (k : ℕ) (a : Item) (q here next cross n N m : ℕ) → 1 ≤ a .to → a .to ≤ n → 1 ≤ a .from → a .from ≤ n → here + n ≤ N → next + n ≤ N → q * up (a .w) + cross ≤ m → q * down (a .w) + cross ≤ m
+pub edge-inside : (k : ℕ) (a : Record) (q here next cross n N m : ℕ) → 1 ≤ a .to → a .to ≤ n → 1 ≤ a .from → a .from ≤ n → here + n ≤ N → next + n ≤ N → q * up (a .w) + cross ≤ m → q * down (a .w) + cross ≤ m
     → Inside (byKind k a q here next cross) N m
 unfolding byKind
 edge-inside zero a q here next cross n N m t t′ f f′ h x u d = record { departs = omega arith; arrives = omega arith; rise = omega arith; fall = omega arith }
@@ -75,12 +91,12 @@ edge-inside (suc (suc (suc (suc k)))) a q here next cross n N m t t′ f f′ h 
 steps-small : (q u : ℕ) → q ≤ 1000 → u ≤ 1000000 → q * u ≤ 1000000000
 steps-small q u h k = mul-le-mul h k
 
-pub fine-inside : (l : List Item) (n count N : ℕ) (at : Stand) (k : ℕ) → Fine l n count → Stands at n N → k < count → Inside (named (itemAt l k) at k .edge) N 2000000000
+pub fine-inside : (l : List Record) (n count N : ℕ) (at : Site) (k : ℕ) → Fine l n count → Sited at n N → k < count → Inside (named (listed l k) at k .edge) N 2000000000
 fine-inside l n count N at k f s h =
-    edge-inside (itemAt l k .kind) (itemAt l k) (at .q) (at .here) (at .next) (at .cross) n N 2000000000 (f .to-first k h) (f .to-last k h) (f .from-first k h) (f .from-last k h) (s .here-in) (s .next-in)
-    (omega (arith, steps-small (at .q) (up (itemAt l k .w)) (s .q-small) (f .up-small k h), s .cross-small)) (omega (arith, steps-small (at .q) (down (itemAt l k .w)) (s .q-small) (f .down-small k h), s .cross-small))
+    edge-inside (listed l k .kind) (listed l k) (at .q) (at .here) (at .next) (at .cross) n N 2000000000 (f .to-first k h) (f .to-last k h) (f .from-first k h) (f .from-last k h) (s .here-in) (s .next-in)
+    (omega (arith, steps-small (at .q) (up (listed l k .w)) (s .q-small) (f .up-small k h), s .cross-small)) (omega (arith, steps-small (at .q) (down (listed l k .w)) (s .q-small) (f .down-small k h), s .cross-small))
 
-pub able : (l : List Item) (n e N : ℕ) (at : Stand) (k : ℕ) (old new marks : List ℕ) (row : ℕ) → Fine l n e → Stands at n N → Boards old new marks row N → length marks ≤ 36864 → k < e → Able (itemAt l k) at k old new marks row
+pub able : (l : List Record) (n e N : ℕ) (at : Site) (k : ℕ) (old new marks : List ℕ) (row : ℕ) → Fine l n e → Sited at n N → Boards old new marks row N → length marks ≤ 36864 → k < e → Able (listed l k) at k old new marks row
 able l n e N at k old new marks row f s b r h =
     let i = fine-inside l n e N at k f s h in
     record {
@@ -97,7 +113,7 @@ able l n e N at k old new marks row f s b r h =
         departs = omega (arith, i .departs, b .old-long);
         arrives = omega (arith, i .arrives, b .new-long);
         marks-in = omega (arith, i .arrives, b .marks-long);
-        sum-small = omega (arith, i .rise, b .small (named (itemAt l k) at k .edge .departure) (i .departs));
+        sum-small = omega (arith, i .rise, b .small (named (listed l k) at k .edge .departure) (i .departs));
       };
     }
 
@@ -127,7 +143,7 @@ module _ (old : List ℕ) (row : ℕ) (a : Named) (b : Board) (m : ℕ) (e : Edg
   raise-same h = two old row b m e c ask h ∙ whole
 
 -- the boards of a step are as long as they were
-pub able-same : (a : Item) (at : Stand) (k : ℕ) (old new marks new′ marks′ : List ℕ) (row : ℕ) → Able a at k old new marks row → length new′ ≡ length new → length marks′ ≡ length marks → Able a at k old new′ marks′ row
+pub able-same : (a : Record) (at : Site) (k : ℕ) (old new marks new′ marks′ : List ℕ) (row : ℕ) → Able a at k old new marks row → length new′ ≡ length new → length marks′ ≡ length marks → Able a at k old new′ marks′ row
 able-same a at k old new marks new′ marks′ row b p q =
     let r = b .reach in
     record {

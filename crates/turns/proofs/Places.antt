@@ -1,6 +1,6 @@
 -- A position of an admitted sheet stands among the N nodes, and the arcs of all positions run between them.
 use mathlib.Core.Path.{_≡_, refl, sym, ap, _∙_}
-use mathlib.Core.Bool.{Bool, true, false}
+use mathlib.Core.Bool.{Bool, true, false, cond}
 use mathlib.Core.List.{List, [], _∷_, _++_, List·Memᴰ, List·Memᴰ·head, List·Memᴰ·tail}
 use Prim.Native.Nat.{ℕ, zero, suc, _+_, _-_, _*_, _≤_, _<_}
 use native.Mathlib.Omega.{arith}
@@ -9,18 +9,18 @@ use native.Mathlib.Numerals.{add-one}
 use borrow.Author.Tests.{eqb-false}
 use lib.Dec.{eqb}
 use lib.ListN.{getD}
-use Rattle.layout.specs.declared.Window.{Window as Item}
-use Rattle.layout.specs.Records.{itemAt}
-use Rattle.turns.specs.declared.Stand.{Stand}
-use Rattle.turns.specs.Rounds.{Named, named, pick, standOf, Board, after, span, walked, Stands, Parts, Limits}
-use Rattle.turns.proofs.Folds.{Inside, fine-inside, after-append}
+use Rattle.layout.specs.declared.Record.{Record}
+use Rattle.layout.specs.Records.{listed}
+use Rattle.turns.specs.declared.Site.{Site}
+use Rattle.turns.specs.Rounds.{Named, named, siteOf, Board, after, span, walked, Parts, Limits}
+use Rattle.turns.proofs.Folds.{Sited, Inside, fine-inside, after-append}
 
 pub nodes-small : (n positions p : ℕ) → Limits n positions p → positions * n ≤ 192
 nodes-small n positions p l = mul-le-mul (l .few-positions) (l .few-events)
 
-pub stands : (g n positions p q : ℕ) → Limits n positions p → q ≤ 1000 → g < positions → Stands (standOf g n positions p q) n (positions * n)
-unfolding standOf
-stands g n positions p q l sq h = go (eqb (g + 1) positions) refl
+pub sited : (g n positions p q : ℕ) → Limits n positions p → q ≤ 1000 → g < positions → Sited (siteOf g n positions p q) n (positions * n)
+unfolding siteOf
+sited g n positions p q l sq h = go (eqb (g + 1) positions) refl
   where
     whole : (g + 1) * n ≤ positions * n
     whole = mul-le-mul-right n (omega arith)
@@ -29,7 +29,7 @@ stands g n positions p q l sq h = go (eqb (g + 1) positions) refl
     few = nodes-small n positions p l
 
     go : (b : Bool) → eqb (g + 1) positions ≡ b
-        → Stands (pick b (record { here = g * n; next = 0; cross = p; q = q; mark = g * 4608 }) (record { here = g * n; next = (g + 1) * n; cross = 0; q = q; mark = g * 4608 })) n (positions * n)
+        → Sited (cond b (record { here = g * n; next = 0; cross = p; q = q; mark = g * 4608 }) (record { here = g * n; next = (g + 1) * n; cross = 0; q = q; mark = g * 4608 })) n (positions * n)
     go true e = record { here-in = omega (arith, whole); next-in = omega (arith, whole); few = few; cross-small = l .p-small; q-small = sq; mark-small = omega (arith, l .few-positions) }
     go false e =
         let q = eqb-false (g + 1) positions e in
@@ -54,30 +54,30 @@ unfolding span
 all-span N f zero a e q h = tt
 all-span N f (suc m) a e q h = (h a (omega arith), all-span N f m (suc a) e (omega arith) h)
 
-module _ (l : List Item) (start schedule : List ℕ) (n positions p q : ℕ) (limits : Limits n positions p) (small : q ≤ 1000) (parts : Parts l n start schedule positions) where
+module _ (l : List Record) (start schedule : List ℕ) (n positions p q : ℕ) (limits : Limits n positions p) (small : q ≤ 1000) (parts : Parts l n start schedule positions) where
   pub walked-in : (g : ℕ) → g ≤ positions → AllIn (positions * n) (walked l start schedule n positions p q g)
   unfolding walked
   walked-in zero h = tt
   walked-in (suc g) h =
       let t = getD schedule g 0 in
       let k : g < positions = omega arith in
-      all-append (positions * n) (walked l start schedule n positions p q g) (span (λ k. named (itemAt l k) (standOf g n positions p q) k) (getD start t 0) (getD start (t + 1) 0 - getD start t 0)) (walked-in g (omega arith))
-      (all-span (positions * n) (λ k. named (itemAt l k) (standOf g n positions p q) k) (getD start (t + 1) 0 - getD start t 0) (getD start t 0) (getD start (t + 1) 0) (omega (arith, parts .rising g k))
-      (λ j i. fine-inside l n (getD start (t + 1) 0) (positions * n) (standOf g n positions p q) j (parts .fine g k) (stands g n positions p q limits small k) i))
+      all-append (positions * n) (walked l start schedule n positions p q g) (span (λ k. named (listed l k) (siteOf g n positions p q) k) (getD start t 0) (getD start (t + 1) 0 - getD start t 0)) (walked-in g (omega arith))
+      (all-span (positions * n) (λ k. named (listed l k) (siteOf g n positions p q) k) (getD start (t + 1) 0 - getD start t 0) (getD start t 0) (getD start (t + 1) 0) (omega (arith, parts .rising g k))
+      (λ j i. fine-inside l n (getD start (t + 1) 0) (positions * n) (siteOf g n positions p q) j (parts .fine g k) (sited g n positions p q limits small k) i))
 
 -- no position yet, and one position more, as the code counts
-module _ (l : List Item) (start schedule : List ℕ) (n positions p q : ℕ) (old : List ℕ) (row : ℕ) (b : Board) where
+module _ (l : List Record) (start schedule : List ℕ) (n positions p q : ℕ) (old : List ℕ) (row : ℕ) (b : Board) where
   pub round-none : b ≡ after old row (walked l start schedule n positions p q 0) b
   unfolding walked after
   round-none = refl
 
-  pub round-more : (g : ℕ) (c d : Board) (at : Stand) → at ≡ standOf g n positions p q → c ≡ after old row (walked l start schedule n positions p q g) b
-      → d ≡ after old row (span (λ k. named (itemAt l k) at k) (getD start (getD schedule g 0) 0) (getD start (getD schedule g 0 + 1) 0 - getD start (getD schedule g 0) 0)) c
+  pub round-more : (g : ℕ) (c d : Board) (at : Site) → at ≡ siteOf g n positions p q → c ≡ after old row (walked l start schedule n positions p q g) b
+      → d ≡ after old row (span (λ k. named (listed l k) at k) (getD start (getD schedule g 0) 0) (getD start (getD schedule g 0 + 1) 0 - getD start (getD schedule g 0) 0)) c
       → d ≡ after old row (walked l start schedule n positions p q (g + 1)) b
   unfolding walked
   round-more g c d at s e h =
       h
-      ∙ ap (λ (x : Stand). after old row (span (λ k. named (itemAt l k) x k) (getD start (getD schedule g 0) 0) (getD start (getD schedule g 0 + 1) 0 - getD start (getD schedule g 0) 0)) c) s
-      ∙ ap (after old row (span (λ k. named (itemAt l k) (standOf g n positions p q) k) (getD start (getD schedule g 0) 0) (getD start (getD schedule g 0 + 1) 0 - getD start (getD schedule g 0) 0))) e
-      ∙ sym (after-append old row (walked l start schedule n positions p q g) (span (λ k. named (itemAt l k) (standOf g n positions p q) k) (getD start (getD schedule g 0) 0) (getD start (getD schedule g 0 + 1) 0 - getD start (getD schedule g 0) 0)) b)
+      ∙ ap (λ (x : Site). after old row (span (λ k. named (listed l k) x k) (getD start (getD schedule g 0) 0) (getD start (getD schedule g 0 + 1) 0 - getD start (getD schedule g 0) 0)) c) s
+      ∙ ap (after old row (span (λ k. named (listed l k) (siteOf g n positions p q) k) (getD start (getD schedule g 0) 0) (getD start (getD schedule g 0 + 1) 0 - getD start (getD schedule g 0) 0))) e
+      ∙ sym (after-append old row (walked l start schedule n positions p q g) (span (λ k. named (listed l k) (siteOf g n positions p q) k) (getD start (getD schedule g 0) 0) (getD start (getD schedule g 0 + 1) 0 - getD start (getD schedule g 0) 0)) b)
       ∙ ap (λ (k : ℕ). after old row (walked l start schedule n positions p q k) b) (sym (add-one g))

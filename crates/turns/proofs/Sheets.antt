@@ -2,7 +2,7 @@
 -- mode, and the arc of a record in numbers is the window's arc at p/q. So the tables are the theory's, and a mark names a window.
 use mathlib.Core.Path.{_≡_, refl, sym, ap, ap₂, _∙_, subst}
 use mathlib.Core.Logic.{inl, inr}
-use mathlib.Core.Bool.{Bool, true, false}
+use mathlib.Core.Bool.{Bool, true, false, cond}
 use mathlib.Core.List.{List, [], _∷_, _++_, map, List·Memᴰ, List·Memᴰ·head, List·Memᴰ·tail, List·Memᴰ·not-nil, List·Memᴰ·append-cases}
 use Prim.Native.Nat.{ℕ, zero, suc, pred, _+_, _-_, _*_, _/_, _%_, _≤_, _<_, max}
 use native.Mathlib.Omega.{arith}
@@ -12,21 +12,23 @@ use native.Mathlib.Numerals.{add-one}
 use borrow.Author.Tests.{eqb-true, eqb-false}
 use lib.Dec.{eqb}
 use lib.IntN.{ℤ, pos}
-use lib.ListN.{length, getD}
+use lib.ListN.{length, getD, length-map, List·getD-map}
 use Rattle.theory.specs.Arcs.{Arc, rise, fall, only, most, table}
 use Rattle.tables.specs.Sheets.{Sheet, noWindow, place, places, admits}
-use Rattle.tables.proofs.Laws.{Admitted, few-places}
+use Rattle.tables.specs.Admitted.{Admitted}
+use Rattle.tables.proofs.Laws.{few-places}
 use Rattle.windows.specs.Windows.{Kind, A0, B0, A1, B1, number, Window, Event, Has, mode}
 use Rattle.windows.specs.Arcs.{up, down, arcOf, oneTo, each, windows, arcsAt, arcs}
 use Rattle.windows.proofs.Listed.{each-more, windows-of}
 use Rattle.windows.proofs.Limits.{number-small, place-below, getD-any, admits-limit}
 use Rattle.layout.specs.declared.Edge.{Edge}
-use Rattle.layout.specs.declared.Window.{Window as Item}
-use Rattle.layout.specs.Records.{item, nothing, itemAt, modeWindows, Modes}
+use Rattle.layout.specs.declared.Record.{Record}
+use Rattle.layout.specs.Records.{listed, modeRecords}
 use Rattle.layout.specs.Edges.{edge, byKind, edgeOf}
-use Rattle.layout.proofs.Windows.{mode-windows}
-use Rattle.turns.specs.declared.Stand.{Stand}
-use Rattle.turns.specs.Rounds.{Named, named, pick, standOf, asks, span, walked, mostOf, tableOf, Fine, Parts}
+use Rattle.layout.proofs.Laying.{Modes}
+use Rattle.layout.proofs.Windows.{asRecord, nothing, mode-records}
+use Rattle.turns.specs.declared.Site.{Site}
+use Rattle.turns.specs.Rounds.{Named, named, siteOf, asks, span, walked, mostOf, tableOf, Fine, Parts}
 
 -- ---- the arcs of the list and the arcs of the theory
 abbrev pub weighed : ℕ → ℕ → Arc → Edge
@@ -87,21 +89,21 @@ edge-same : (d d′ a a′ u u′ w w′ : ℕ) → d ≡ d′ → a ≡ a′ �
 edge-same d d′ a a′ u u′ w w′ x y z t = rw (x, y, z, t)
 
 -- where the position g + 1 stands, as the theory counts
-record Stood (at : Stand) (n positions p q g : ℕ) : Type 0 where
+record Stood (at : Site) (n positions p q g : ℕ) : Type 0 where
   steps : at .q ≡ q
   here : at .here ≡ g % positions * n
   next : at .next ≡ suc g % positions * n
   cross : at .cross ≡ p * (suc g / positions)
   first : g / positions ≡ 0
 
-stood : (g n positions p q : ℕ) → g < positions → Stood (standOf g n positions p q) n positions p q g
-unfolding standOf
+stood : (g n positions p q : ℕ) → g < positions → Stood (siteOf g n positions p q) n positions p q g
+unfolding siteOf
 stood g n positions p q h = go (eqb (g + 1) positions) refl
   where
     low : g * n ≡ g % positions * n
     low = ap (λ (x : ℕ). x * n) (sym (mod-eq-of-lt h))
 
-    go : (b : Bool) → eqb (g + 1) positions ≡ b → Stood (pick b (record { here = g * n; next = 0; cross = p; q = q; mark = g * 4608 }) (record { here = g * n; next = (g + 1) * n; cross = 0; q = q; mark = g * 4608 })) n positions p q g
+    go : (b : Bool) → eqb (g + 1) positions ≡ b → Stood (cond b (record { here = g * n; next = 0; cross = p; q = q; mark = g * 4608 }) (record { here = g * n; next = (g + 1) * n; cross = 0; q = q; mark = g * 4608 })) n positions p q g
     go true e =
         let last : suc g ≡ positions = omega (arith, eqb-true (g + 1) positions e) in
         let some : 0 < positions = omega arith in
@@ -124,7 +126,7 @@ stood g n positions p q h = go (eqb (g + 1) positions) refl
           first = div-eq-of-lt h;
         }
 
-module _ (s : Sheet) (p q g : ℕ) (at : Stand) (o : Stood at (s .n) (s .positions) p q g) where
+module _ (s : Sheet) (p q g : ℕ) (at : Site) (o : Stood at (s .n) (s .positions) p q g) where
   here-at : (i : ℕ) → 1 ≤ i → at .here + i - 1 ≡ g % s .positions * s .n + pred i
   here-at i h = spot (at .here) i h ∙ ap (λ (x : ℕ). x + pred i) (o .here)
 
@@ -138,7 +140,7 @@ module _ (s : Sheet) (p q g : ℕ) (at : Stand) (o : Stood at (s .n) (s .positio
   crosses x = ap₂ (λ (y z : ℕ). y * x + z) (o .steps) (o .cross)
 
   window-edge : (k : Kind) (i j : ℕ) (w : ℤ) → 1 ≤ i → 1 ≤ j
-      → edgeOf (item (record { kind = k; to = i; from = j; w = w })) (at .q) (at .here) (at .next) (at .cross) ≡ weighed p q (arcOf s (suc g) (record { kind = k; to = i; from = j; w = w }))
+      → edgeOf (asRecord (record { kind = k; to = i; from = j; w = w })) (at .q) (at .here) (at .next) (at .cross) ≡ weighed p q (arcOf s (suc g) (record { kind = k; to = i; from = j; w = w }))
   unfolding byKind
   window-edge A0 i j w a b = edge-same _ _ _ _ _ _ _ _ (here-at j b) (here-at i a) (stays (up w)) (stays (down w))
   window-edge B0 i j w a b = edge-same _ _ _ _ _ _ _ _ (here-at i a) (here-at j b) (stays (down w)) (stays (up w))
@@ -151,18 +153,18 @@ getD-in [] i d h = absurd (omega arith)
 getD-in (a ∷ l) zero d h = List·Memᴰ·head refl
 getD-in (a ∷ l) (suc i) d h = List·Memᴰ·tail (getD-in l i d (omega arith))
 
-module _ (s : Sheet) (ok : Admitted s) (p q : ℕ) (l : List Item) (start : List ℕ) (laid : Modes (s .tables) (s .n) l start (s .m)) where
-  same : (t : ℕ) → t < s .m → modeWindows (s .tables) (s .n) t ≡ windows s t
-  same t h = mode-windows s t h (ok .size .long-tables)
+module _ (s : Sheet) (ok : Admitted s) (p q : ℕ) (l : List Record) (start : List ℕ) (laid : Modes (s .tables) (s .n) l start (s .m)) where
+  same : (t : ℕ) → t < s .m → modeRecords (s .tables) (s .n) t ≡ map asRecord (windows s t)
+  same t h = mode-records s t h (ok .size .long-tables)
 
   pub starts : (t : ℕ) → t < s .m → getD start (t + 1) 0 ≡ getD start t 0 + length (windows s t)
-  starts t h = ap (λ (x : ℕ). getD start x 0) (add-one t) ∙ laid .starts .next t h ∙ ap (λ (x : List Window). getD start t 0 + length x) (same t h)
+  starts t h = ap (λ (x : ℕ). getD start x 0) (add-one t) ∙ laid .next t h ∙ ap (λ (x : ℕ). getD start t 0 + x) (ap length (same t h) ∙ length-map (windows s t) asRecord)
 
-  pub items : (t i : ℕ) → t < s .m → i < length (windows s t) → itemAt l (getD start t 0 + i) ≡ item (getD (windows s t) i nothing)
-  items t i h k = go (modeWindows (s .tables) (s .n) t) (windows s t) (same t h) (laid .inside t i h) k
-    where
-      go : (xs ys : List Window) → xs ≡ ys → (i < length xs → itemAt l (getD start t 0 + i) ≡ item (getD xs i nothing)) → i < length ys → itemAt l (getD start t 0 + i) ≡ item (getD ys i nothing)
-      go xs ys e f k = rw e at f k
+  pub records : (t i : ℕ) → t < s .m → i < length (windows s t) → listed l (getD start t 0 + i) ≡ asRecord (getD (windows s t) i nothing)
+  records t i h k =
+      laid .inside t i h (omega (arith, ap length (same t h), length-map (windows s t) asRecord))
+      ∙ ap (λ (x : List Record). listed x i) (same t h)
+      ∙ List·getD-map asRecord (windows s t) i nothing
 
   mode-is : (g : ℕ) → g < s .positions → mode s (suc g) ≡ getD (s .schedule) g 0
   mode-is g h = ap (λ (x : ℕ). getD (s .schedule) x 0) (mod-eq-of-lt h)
@@ -171,14 +173,14 @@ module _ (s : Sheet) (ok : Admitted s) (p q : ℕ) (l : List Item) (start : List
   has g i h k = windows-of s (getD (s .schedule) g 0) _ (getD-in (windows s (getD (s .schedule) g 0)) i nothing k)
 
   here : (g : ℕ) → g < s .positions → (i : ℕ) → i < length (windows s (getD (s .schedule) g 0))
-      → named (itemAt l (getD start (getD (s .schedule) g 0) 0 + i)) (standOf g (s .n) (s .positions) p q) (getD start (getD (s .schedule) g 0) 0 + i) .edge
+      → named (listed l (getD start (getD (s .schedule) g 0) 0 + i)) (siteOf g (s .n) (s .positions) p q) (getD start (getD (s .schedule) g 0) 0 + i) .edge
       ≡ weighed p q (arcOf s (suc g) (getD (windows s (getD (s .schedule) g 0)) i nothing))
   here g k i j =
       let t = getD (s .schedule) g 0 in
       let a = getD (windows s t) i nothing in
-      let at = standOf g (s .n) (s .positions) p q in
+      let at = siteOf g (s .n) (s .positions) p q in
       let e = has g i k j in
-      ap (λ (x : Item). edgeOf x (at .q) (at .here) (at .next) (at .cross)) (items t i (ok .modes g k) j)
+      ap (λ (x : Record). edgeOf x (at .q) (at .here) (at .next) (at .cross)) (records t i (ok .modes g k) j)
       ∙ window-edge s p q g at (stood g (s .n) (s .positions) p q k) (a .kind) (a .to) (a .from) (a .w) (e .to-event .0) (e .from-event .0)
 
   -- THEOREM: the arcs that a round walks are the sheet's arcs
@@ -190,9 +192,9 @@ module _ (s : Sheet) (ok : Admitted s) (p q : ℕ) (l : List Item) (start : List
       let t = getD (s .schedule) g 0 in
       let below = ok .modes g k in
       let count : getD start (t + 1) 0 - getD start t 0 ≡ length (windows s t) = omega (arith, starts t below) in
-      let part = match-span p q (λ x. named (itemAt l x) (standOf g (s .n) (s .positions) p q) x) (arcOf s (suc g)) (windows s t) (getD start t 0) (λ i j. here g k i j) in
+      let part = match-span p q (λ x. named (listed l x) (siteOf g (s .n) (s .positions) p q) x) (arcOf s (suc g)) (windows s t) (getD start t 0) (λ i j. here g k i j) in
       subst (Match p q (walked l start (s .schedule) (s .n) (s .positions) p q (suc g))) (sym (each-more g (arcsAt s)))
-      (match-append p q (walked l start (s .schedule) (s .n) (s .positions) p q g) (each (oneTo g) (arcsAt s)) (span (λ x. named (itemAt l x) (standOf g (s .n) (s .positions) p q) x) (getD start t 0) (getD start (t + 1) 0 - getD start t 0)) (arcsAt s (suc g))
+      (match-append p q (walked l start (s .schedule) (s .n) (s .positions) p q g) (each (oneTo g) (arcsAt s)) (span (λ x. named (listed l x) (siteOf g (s .n) (s .positions) p q) x) (getD start t 0) (getD start (t + 1) 0 - getD start t 0)) (arcsAt s (suc g))
       (walked-match g (omega arith)) (rw (count, mode-is g k) part))
 
   -- THEOREM: the tables of the rounds are the tables of the sheet's arcs
@@ -204,7 +206,7 @@ module _ (s : Sheet) (ok : Admitted s) (p q : ℕ) (l : List Item) (start : List
 
   -- every record is a window of a mode
   placed : (t : ℕ) → t ≤ s .m → (k : ℕ) → k < getD start t 0 → (j i : ℕ) × (j < s .m) × (i < length (windows s j)) × (k ≡ getD start j 0 + i)
-  placed zero h k x = absurd (omega (arith, laid .starts .first))
+  placed zero h k x = absurd (omega (arith, laid .first))
   placed (suc t) h k x =
       elim (decLt k (getD start t 0)) [
         | yes a ↦ placed t (omega arith) k a
@@ -220,10 +222,10 @@ module _ (s : Sheet) (ok : Admitted s) (p q : ℕ) (l : List Item) (start : List
 
   -- the record k is fine
   record Good (k : ℕ) : Type 0 where
-    to-event : Event s (itemAt l k .to)
-    from-event : Event s (itemAt l k .from)
-    up-small : up (itemAt l k .w) ≤ 1000000
-    down-small : down (itemAt l k .w) ≤ 1000000
+    to-event : Event s (listed l k .to)
+    from-event : Event s (listed l k .from)
+    up-small : up (listed l k .w) ≤ 1000000
+    down-small : down (listed l k .w) ≤ 1000000
 
   good : (t : ℕ) → t ≤ s .m → (k : ℕ) → k < getD start t 0 → Good k
   good t h k x =
@@ -231,7 +233,7 @@ module _ (s : Sheet) (ok : Admitted s) (p q : ℕ) (l : List Item) (start : List
       let a = getD (windows s (j .0)) (j .1) nothing in
       let b = windows-of s (j .0) a (getD-in (windows s (j .0)) (j .1) nothing (j .3)) in
       let m = small (j .0) (j .2) a b in
-      let e : itemAt l k ≡ item a = ap (itemAt l) (j .4) ∙ items (j .0) (j .1) (j .2) (j .3) in
+      let e : listed l k ≡ asRecord a = ap (listed l) (j .4) ∙ records (j .0) (j .1) (j .2) (j .3) in
       record {
         to-event = rw e (b .to-event);
         from-event = rw e (b .from-event);
@@ -271,20 +273,20 @@ module _ (s : Sheet) (ok : Admitted s) (p q : ℕ) (l : List Item) (start : List
     pub few : at < 4608
     pub of : Window
     pub has : Has s (getD (s .schedule) position 0) of
-    pub stands : itemAt l at ≡ item of
-    pub made : a .edge ≡ named (itemAt l at) (standOf position (s .n) (s .positions) p q) at .edge
+    pub stands : listed l at ≡ asRecord of
+    pub made : a .edge ≡ named (listed l at) (siteOf position (s .n) (s .positions) p q) at .edge
     pub edge : a .edge ≡ weighed p q (arcOf s (suc position) of)
     pub mark : a .mark ≡ position * 4608 + at + 1
 
-  stand-mark : (g : ℕ) → standOf g (s .n) (s .positions) p q .mark ≡ g * 4608
-  unfolding standOf
-  stand-mark g = go (eqb (g + 1) (s .positions))
+  site-mark : (g : ℕ) → siteOf g (s .n) (s .positions) p q .mark ≡ g * 4608
+  unfolding siteOf
+  site-mark g = go (eqb (g + 1) (s .positions))
     where
-      go : (b : Bool) → pick {A = Stand} b (record { here = g * s .n; next = 0; cross = p; q = q; mark = g * 4608 }) (record { here = g * s .n; next = (g + 1) * s .n; cross = 0; q = q; mark = g * 4608 }) .mark ≡ g * 4608
+      go : (b : Bool) → cond {A = Site} b (record { here = g * s .n; next = 0; cross = p; q = q; mark = g * 4608 }) (record { here = g * s .n; next = (g + 1) * s .n; cross = 0; q = q; mark = g * 4608 }) .mark ≡ g * 4608
       go true = refl
       go false = refl
 
-  source-at : (g : ℕ) → g < s .positions → (k : ℕ) → getD start (getD (s .schedule) g 0) 0 ≤ k → k < getD start (getD (s .schedule) g 0 + 1) 0 → Source (named (itemAt l k) (standOf g (s .n) (s .positions) p q) k)
+  source-at : (g : ℕ) → g < s .positions → (k : ℕ) → getD start (getD (s .schedule) g 0) 0 ≤ k → k < getD start (getD (s .schedule) g 0 + 1) 0 → Source (named (listed l k) (siteOf g (s .n) (s .positions) p q) k)
   source-at g h k x y =
       let t = getD (s .schedule) g 0 in
       let i = k - getD start t 0 in
@@ -297,10 +299,10 @@ module _ (s : Sheet) (ok : Admitted s) (p q : ℕ) (l : List Item) (start : List
         few = omega (arith, start-few (t + 1) (omega (arith, ok .modes g h)));
         of = getD (windows s t) i nothing;
         has = has g i h j;
-        stands = ap (itemAt l) (sym e) ∙ items t i (ok .modes g h) j;
+        stands = ap (listed l) (sym e) ∙ records t i (ok .modes g h) j;
         made = refl;
-        edge = ap (λ (z : ℕ). named (itemAt l z) (standOf g (s .n) (s .positions) p q) z .edge) (sym e) ∙ here g h i j;
-        mark = ap (λ (z : ℕ). z + k + 1) (stand-mark g);
+        edge = ap (λ (z : ℕ). named (listed l z) (siteOf g (s .n) (s .positions) p q) z .edge) (sym e) ∙ here g h i j;
+        mark = ap (λ (z : ℕ). z + k + 1) (site-mark g);
       }
 
   span-of : {A : Type 0} (f : ℕ → A) (m a : ℕ) {x : A} → List·Memᴰ x (span f a m) → (k : ℕ) × (a ≤ k) × (k < a + m) × (x ≡ f k)
@@ -319,6 +321,6 @@ module _ (s : Sheet) (ok : Admitted s) (p q : ℕ) (l : List Item) (start : List
       elim (List·Memᴰ·append-cases (walked l start (s .schedule) (s .n) (s .positions) p q g) m) [
         | inl e ↦ source g (omega arith) e
         | inr e ↦
-            let r = span-of (λ x. named (itemAt l x) (standOf g (s .n) (s .positions) p q) x) (getD start (t + 1) 0 - getD start t 0) (getD start t 0) e in
+            let r = span-of (λ x. named (listed l x) (siteOf g (s .n) (s .positions) p q) x) (getD start (t + 1) 0 - getD start t 0) (getD start t 0) e in
             rw (r .3) (source-at g k (r .0) (r .1) (omega (arith, r .2, starts t (ok .modes g k))))
       ]

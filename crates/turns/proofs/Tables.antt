@@ -2,7 +2,7 @@
 -- mark of an arc that asked exactly it, and the rows before stay. So the rounds hold the tables, and each mark names a cause.
 use mathlib.Core.Path.{_≡_, refl, sym, ap, subst, _∙_}
 use mathlib.Core.Logic.{_≢_, _⊎_, inl, inr}
-use mathlib.Core.Bool.{Bool, true, false}
+use mathlib.Core.Bool.{Bool, true, false, cond}
 use mathlib.Core.List.{List, [], _∷_, List·Memᴰ, List·Memᴰ·head, List·Memᴰ·tail}
 use Prim.Native.Nat.{ℕ, zero, suc, _+_, _-_, _*_, _≤_, _<_, max}
 use native.Mathlib.Omega.{arith}
@@ -14,7 +14,8 @@ use lib.ListN.{length, getD, set, length-set}
 use lib.Seq.{getD-set-same, getD-set-other}
 use Rattle.theory.specs.Arcs.{only}
 use Rattle.theory.proofs.Rounds.{only-yes, only-no}
-use Rattle.turns.specs.Rounds.{Named, pick, Board, board, asks, raise, after, mostOf, tableOf, Boards, Differs, Told, Rose, Ran}
+use Rattle.turns.specs.Rounds.{Named, Board, board, asks, raise, after, mostOf, tableOf, Differs, MarkTold, Rose, Ran}
+use Rattle.turns.proofs.Folds.{Boards}
 use Rattle.turns.proofs.Places.{AllIn, all-in}
 
 -- the arc a explains the time at v
@@ -37,7 +38,7 @@ module _ (old : List ℕ) (row : ℕ) (a : Named) (b : Board) where
   unfolding raise c up
   raise-cases P more less = go (ltb (getD (b .times) (a .edge .arrival) 0) c) refl
     where
-      go : (t : Bool) → ltb (getD (b .times) (a .edge .arrival) 0) c ≡ t → P (pick t up b)
+      go : (t : Bool) → ltb (getD (b .times) (a .edge .arrival) 0) c ≡ t → P (cond t up b)
       go true e = more (ltb-true (getD (b .times) (a .edge .arrival) 0) c e)
       go false e = less (ltb-false (getD (b .times) (a .edge .arrival) 0) c e)
 
@@ -150,7 +151,7 @@ table-grows arcs r v = omega arith
 pub record Running (arcs : List Named) (N r node : ℕ) (times marks : List ℕ) : Type 0 where
   pub table : (v : ℕ) → v < N → getD times v 0 ≡ tableOf arcs r v
   pub rising : (k : ℕ) → k < r → (v : ℕ) × (v < N) × Rose arcs k v
-  pub told : (k v : ℕ) → k < r → v < N → Rose arcs k v → Told arcs marks k v
+  pub told : (k v : ℕ) → k < r → v < N → Rose arcs k v → MarkTold arcs marks k v
   pub last : 0 < r → (node < N) × Rose arcs (r - 1) node
 
 pub running-none : (arcs : List Named) (N node : ℕ) (times marks : List ℕ) → ((v : ℕ) → getD times v 0 ≡ 0) → Running arcs N 0 node times marks
@@ -172,7 +173,7 @@ module _ (arcs : List Named) (N r node : ℕ) (old marks new′ marks′ : List 
       ∙ after-at old (r * 192) arcs (board old marks) v (omega arith)
       ∙ omega (arith, b .table v h, most-agree N arcs inside (λ v. getD old v 0) (tableOf arcs r) (b .table) v)
 
-  told-next : (v : ℕ) → v < N → Rose arcs r v → Told arcs marks′ r v
+  told-next : (v : ℕ) → v < N → Rose arcs r v → MarkTold arcs marks′ r v
   told-next v h rose =
       elim (after-cause old (r * 192) arcs (board old marks) v (omega arith) (omega arith)) [
         | inl e ↦ absurd (omega (arith, times-next v h, b .table v h, e .0, ap (λ (x : Board). getD (x .times) v 0) done))
@@ -185,7 +186,7 @@ module _ (arcs : List Named) (N r node : ℕ) (old marks new′ marks′ : List 
         }
       ]
 
-  told-kept : (k v : ℕ) → k < r → v < N → Rose arcs k v → Told arcs marks′ k v
+  told-kept : (k v : ℕ) → k < r → v < N → Rose arcs k v → MarkTold arcs marks′ k v
   told-kept k v h l rose =
       let t = b .told k v h l rose in
       record {

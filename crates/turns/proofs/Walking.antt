@@ -8,16 +8,16 @@ use native.Mathlib.Nat.{mul-le-mul-right, mul-pos}
 use native.Mathlib.Decide.{decLt}
 use lib.ListN.{length, getD, take, drop, length-drop}
 use lib.Seq.{length-take-le, getD-take, getD-drop}
-use Rattle.layout.specs.declared.Window.{Window as Item}
-use Rattle.layout.specs.Records.{item, nothing, itemAt}
+use Rattle.layout.specs.declared.Record.{Record}
+use Rattle.layout.specs.Records.{blank, listed}
 use Rattle.turns.specs.declared.Job.{Job}
 use Rattle.turns.specs.declared.Turn.{Turn}
-use Rattle.turns.specs.Rounds.{Named, standOf, board, after, passed, walked, roundOf, turnOf, Able, Posed, Parts, Next, on, still, again, Ran}
+use Rattle.turns.specs.Rounds.{Named, siteOf, board, after, passed, walked, roundOf, turnOf, Able, Posed, Parts, Next, on, still, again, Ran}
 use Rattle.turns.proofs.Folds.{pass-part, able, boards-same}
-use Rattle.turns.proofs.Places.{AllIn, nodes-small, stands, walked-in, round-none, round-more}
+use Rattle.turns.proofs.Places.{AllIn, nodes-small, sited, walked-in, round-none, round-more}
 use Rattle.turns.proofs.Tables.{Running, running-none, running-boards, running-more, ran-still, ran-all}
 
-module _ (l : List Item) (job : Job) (schedule : List ℕ) (posed : Posed job schedule) (parts : Parts l (job .n) (job .start) schedule (job .positions)) (room : length l ≡ 4608) where
+module _ (l : List Record) (job : Job) (schedule : List ℕ) (posed : Posed job schedule) (parts : Parts l (job .n) (job .start) schedule (job .positions)) (room : length l ≡ 4608) where
   abbrev N : ℕ
   N = job .positions * job .n
 
@@ -80,7 +80,7 @@ module _ (l : List Item) (job : Job) (schedule : List ℕ) (posed : Posed job sc
     w : Walking t old new marks
     w = s .walking more
 
-    at-is : t .at ≡ standOf (t .position) (job .n) (job .positions) (job .p) (job .q)
+    at-is : t .at ≡ siteOf (t .position) (job .n) (job .positions) (job .p) (job .q)
     unfolding w
     at-is = ap (λ (x : Turn). x .at) (w .is)
 
@@ -99,22 +99,22 @@ module _ (l : List Item) (job : Job) (schedule : List ℕ) (posed : Posed job sc
     pub part-below : t .last ≤ length l
     part-below = omega (arith, last-is, parts .fine (t .position) (w .here) .few, room)
 
-    abbrev part : List Item
+    abbrev part : List Record
     part = take (t .last - t .first) (drop (t .first) l)
 
     part-long : length part ≡ t .last - t .first
     part-long = length-take-le (t .last - t .first) (drop (t .first) l) (omega (arith, part-in, part-below, length-drop (t .first) l))
 
-    part-at : (i : ℕ) → i < t .last - t .first → getD part i (item nothing) ≡ itemAt l (t .first + i)
-    part-at i h = getD-take (t .last - t .first) (drop (t .first) l) i (item nothing) h ∙ getD-drop (t .first) l i (item nothing)
+    part-at : (i : ℕ) → i < t .last - t .first → listed part i ≡ listed l (t .first + i)
+    part-at i h = getD-take (t .last - t .first) (drop (t .first) l) i blank h ∙ getD-drop (t .first) l i blank
 
     -- what the pass rests on
-    pub pass-able : (i : ℕ) → i < length part → Able (getD part i (item nothing)) (t .at) (t .first + i) old new marks (t .round * 192)
+    pub pass-able : (i : ℕ) → i < length part → Able (listed part i) (t .at) (t .first + i) old new marks (t .round * 192)
     pass-able i h =
         let k : i < t .last - t .first = omega (arith, part-long) in
         let b = running-boards A N (t .round) (t .node) old (w .began) inside few (w .before) (s .old-long) (w .long) (w .running) in
         rw (part-at i k) (able l (job .n) (t .last) N (t .at) (t .first + i) old new marks (t .round * 192) (rw last-is (parts .fine (t .position) (w .here)))
-        (rw at-is (stands (t .position) (job .n) (job .positions) (job .p) (job .q) (posed .limits) (posed .q-small) (w .here)))
+        (rw at-is (sited (t .position) (job .n) (job .positions) (job .p) (job .q) (posed .limits) (posed .q-small) (w .here)))
         (boards-same old old (w .began) new marks (t .round * 192) N b (s .new-long ∙ sym (s .old-long)) (s .marks-long ∙ sym (w .long))) (omega (arith, s .marks-long)) (omega arith))
 
     -- what the next turn rests on

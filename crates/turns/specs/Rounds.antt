@@ -3,7 +3,7 @@
 -- proofs/Tables ties them to the tables of the theory, proofs/Sheets to the arcs of a sheet.
 use mathlib.Core.Path.{_≡_}
 use mathlib.Core.Logic.{_≢_}
-use mathlib.Core.Bool.{Bool, true, false}
+use mathlib.Core.Bool.{cond}
 use mathlib.Core.List.{List, [], _∷_, _++_, List·Memᴰ}
 use Prim.Native.Nat.{ℕ, zero, suc, _+_, _-_, _*_, _≤_, _<_, max}
 use native.Mathlib.Decide.{ℕ-discrete}
@@ -11,12 +11,12 @@ use lib.Dec.{ltb, eqb}
 use lib.ListN.{length, getD, set, drop}
 use Rattle.theory.specs.Arcs.{only}
 use Rattle.layout.specs.declared.Edge.{Edge}
-use Rattle.layout.specs.declared.Window.{Window as Item}
-use Rattle.layout.specs.Records.{itemAt}
+use Rattle.layout.specs.declared.Record.{Record}
+use Rattle.layout.specs.Records.{listed}
 use Rattle.layout.specs.Edges.{edgeOf}
 use Rattle.windows.specs.Arcs.{up, down}
 use Rattle.turns.specs.declared.Job.{Job}
-use Rattle.turns.specs.declared.Stand.{Stand}
+use Rattle.turns.specs.declared.Site.{Site}
 use Rattle.turns.specs.declared.Turn.{Turn}
 
 -- An arc with its mark, which names its position and its record.
@@ -25,24 +25,21 @@ pub record Named : Type 0 where
   pub edge : Edge
 
 -- the record k at a position
-abbrev pub named : Item → Stand → ℕ → Named
+abbrev pub named : Record → Site → ℕ → Named
 named a at k = record { mark = at .mark + k + 1; edge = edgeOf a (at .q) (at .here) (at .next) (at .cross) }
 
 -- The position g + 1 of V: where its events and those of the next position stand, what crossing costs, how many steps a unit of time
 -- has, and where its marks begin.
-abbrev pub pick : {A : Type 0} → Bool → A → A → A
-pick true a b = a
-pick false a b = b
-
-unfoldable pub standOf : ℕ → ℕ → ℕ → ℕ → ℕ → Stand
-standOf g n positions p q =
-    pick (eqb (g + 1) positions) (record { here = g * n; next = 0; cross = p; q = q; mark = g * 4608 }) (record { here = g * n; next = (g + 1) * n; cross = 0; q = q; mark = g * 4608 })
+unfoldable pub siteOf : ℕ → ℕ → ℕ → ℕ → ℕ → Site
+siteOf g n positions p q =
+    cond (eqb (g + 1) positions) (record { here = g * n; next = 0; cross = p; q = q; mark = g * 4608 }) (record { here = g * n; next = (g + 1) * n; cross = 0; q = q; mark = g * 4608 })
 
 -- the times, and the marks
 pub record Board : Type 0 where
   pub times : List ℕ
   pub marks : List ℕ
 
+-- both, as one value
 abbrev pub board : List ℕ → List ℕ → Board
 board t m = record { times = t; marks = m }
 
@@ -55,7 +52,7 @@ unfoldable pub raise : List ℕ → ℕ → Named → Board → Board
 raise old row a b =
     let e = a .edge in
     let c = asks (λ v. getD old v 0) e in
-    pick (ltb (getD (b .times) (e .arrival) 0) c) (board (set (b .times) (e .arrival) c) (set (b .marks) (row + e .arrival) (a .mark))) b
+    cond (ltb (getD (b .times) (e .arrival) 0) c) (board (set (b .times) (e .arrival) c) (set (b .marks) (row + e .arrival) (a .mark))) b
 
 -- the arcs of a list, one after the other
 unfoldable pub after : List ℕ → ℕ → List Named → Board → Board
@@ -68,33 +65,36 @@ span f a zero = []
 span f a (suc m) = f a ∷ span f (suc a) m
 
 -- the arcs of a part of the list at a position, where the part begins with the record k
-abbrev pub passed : Stand → ℕ → List Item → List Named
+abbrev pub passed : Site → ℕ → List Record → List Named
 passed at k [] = []
 passed at k (a ∷ rest) = named a at k ∷ passed at (suc k) rest
 
 -- "a mode's part at each position where it stands": the arcs of the first g positions
-unfoldable pub walked : List Item → List ℕ → List ℕ → ℕ → ℕ → ℕ → ℕ → ℕ → List Named
+unfoldable pub walked : List Record → List ℕ → List ℕ → ℕ → ℕ → ℕ → ℕ → ℕ → List Named
 walked l start schedule n positions p q zero = []
 walked l start schedule n positions p q (suc g) =
     let t = getD schedule g 0 in
-    walked l start schedule n positions p q g ++ span (λ k. named (itemAt l k) (standOf g n positions p q) k) (getD start t 0) (getD start (t + 1) 0 - getD start t 0)
+    walked l start schedule n positions p q g ++ span (λ k. named (listed l k) (siteOf g n positions p q) k) (getD start t 0) (getD start (t + 1) 0 - getD start t 0)
 
 -- the arcs of all positions
-abbrev pub roundOf : List Item → Job → List ℕ → List Named
+abbrev pub roundOf : List Record → Job → List ℕ → List Named
 roundOf l job schedule = walked l (job .start) schedule (job .n) (job .positions) (job .p) (job .q) (job .positions)
 
 -- The turn at the position g + 1 of the round r + 1, where `left` turns are left: the mode there has the records from `first` to `last`.
 abbrev pub turnOf : ℕ → ℕ → ℕ → ℕ → Job → List ℕ → Turn
 turnOf left r g node job schedule =
     let t = getD schedule g 0 in
-    record { left = left; round = r; position = g; node = node; first = getD (job .start) t 0; last = getD (job .start) (t + 1) 0; at = standOf g (job .n) (job .positions) (job .p) (job .q) }
+    record { left = left; round = r; position = g; node = node; first = getD (job .start) t 0; last = getD (job .start) (t + 1) 0; at = siteOf g (job .n) (job .positions) (job .p) (job .q) }
 
 -- ---- tables over a list of arcs, as the theory has them
+
+-- "the largest (table r at departure plus weight) over arcs arriving"
 unfoldable pub mostOf : List Named → (ℕ → ℕ) → ℕ → ℕ
 unfolding ℕ-discrete
 mostOf [] t v = 0
 mostOf (a ∷ rest) t v = max (only (ℕ-discrete (a .edge .arrival) v) (asks t (a .edge))) (mostOf rest t v)
 
+-- "Table r+1 holds, at each node, the larger of table r there" and that
 unfoldable pub tableOf : List Named → ℕ → ℕ → ℕ
 tableOf arcs zero v = 0
 tableOf arcs (suc r) v = max (tableOf arcs r v) (mostOf arcs (tableOf arcs r) v)
@@ -102,30 +102,14 @@ tableOf arcs (suc r) v = max (tableOf arcs r v) (mostOf arcs (tableOf arcs r) v)
 -- ---- what the functions are handed
 
 -- The records below `count` are windows between events 1 to n, with limits that are small.
-pub record Fine (l : List Item) (n count : ℕ) : Type 0 where
+pub record Fine (l : List Record) (n count : ℕ) : Type 0 where
   pub few : count ≤ 4608
-  pub to-first : (k : ℕ) → k < count → 1 ≤ itemAt l k .to
-  pub to-last : (k : ℕ) → k < count → itemAt l k .to ≤ n
-  pub from-first : (k : ℕ) → k < count → 1 ≤ itemAt l k .from
-  pub from-last : (k : ℕ) → k < count → itemAt l k .from ≤ n
-  pub up-small : (k : ℕ) → k < count → up (itemAt l k .w) ≤ 1000000
-  pub down-small : (k : ℕ) → k < count → down (itemAt l k .w) ≤ 1000000
-
--- The position's events and the next one's stand among N nodes.
-pub record Stands (at : Stand) (n N : ℕ) : Type 0 where
-  pub here-in : at .here + n ≤ N
-  pub next-in : at .next + n ≤ N
-  pub few : N ≤ 192
-  pub cross-small : at .cross ≤ 1000000000
-  pub q-small : at .q ≤ 1000
-  pub mark-small : at .mark ≤ 69120
-
--- The old times are small, and there is room for N times, old and new, and for a row of N marks.
-pub record Boards (old new marks : List ℕ) (row N : ℕ) : Type 0 where
-  pub old-long : N ≤ length old
-  pub new-long : N ≤ length new
-  pub marks-long : row + N ≤ length marks
-  pub small : (v : ℕ) → v < N → getD old v 0 ≤ 1000000000000000
+  pub to-first : (k : ℕ) → k < count → 1 ≤ listed l k .to
+  pub to-last : (k : ℕ) → k < count → listed l k .to ≤ n
+  pub from-first : (k : ℕ) → k < count → 1 ≤ listed l k .from
+  pub from-last : (k : ℕ) → k < count → listed l k .from ≤ n
+  pub up-small : (k : ℕ) → k < count → up (listed l k .w) ≤ 1000000
+  pub down-small : (k : ℕ) → k < count → down (listed l k .w) ≤ 1000000
 
 -- An arc's nodes are among the times, and its sum is small.
 pub record Reach (e : Edge) (old new marks : List ℕ) (row : ℕ) : Type 0 where
@@ -135,7 +119,7 @@ pub record Reach (e : Edge) (old new marks : List ℕ) (row : ℕ) : Type 0 wher
   pub sum-small : getD old (e .departure) 0 + e .rise < 9000000000000000
 
 -- What one record's step rests on.
-pub record Able (a : Item) (at : Stand) (k : ℕ) (old new marks : List ℕ) (row : ℕ) : Type 0 where
+pub record Able (a : Record) (at : Site) (k : ℕ) (old new marks : List ℕ) (row : ℕ) : Type 0 where
   pub to-first : 1 ≤ a .to
   pub from-first : 1 ≤ a .from
   pub here-few : at .here < 4096
@@ -163,7 +147,7 @@ pub record Posed (job : Job) (schedule : List ℕ) : Type 0 where
   pub mode : (g : ℕ) → g < job .positions → getD schedule g 0 + 1 < 9
 
 -- Those parts are fine.
-pub record Parts (l : List Item) (n : ℕ) (start schedule : List ℕ) (positions : ℕ) : Type 0 where
+pub record Parts (l : List Record) (n : ℕ) (start schedule : List ℕ) (positions : ℕ) : Type 0 where
   pub rising : (g : ℕ) → g < positions → getD start (getD schedule g 0) 0 ≤ getD start (getD schedule g 0 + 1) 0
   pub fine : (g : ℕ) → g < positions → Fine l n (getD start (getD schedule g 0 + 1) 0)
 
@@ -189,13 +173,14 @@ pub data Next (t : Turn) (job : Job) (schedule old new : List ℕ) (t′ : Turn)
   again : job .positions ≤ t .position + 1 → (d : ℕ) → d < job .positions * job .n → Differs old new (job .positions * job .n) d → t′ ≡ turnOf (t .left - 1) (t .round + 1) 0 d job schedule → old′ ≡ new → Next t job schedule old new t′ old′
 
 -- the mark of v in row r names the arc that raised v in round r + 1
-pub record Told (arcs : List Named) (marks : List ℕ) (r v : ℕ) : Type 0 where
+pub record MarkTold (arcs : List Named) (marks : List ℕ) (r v : ℕ) : Type 0 where
   pub by : Named
   pub member : List·Memᴰ by arcs
   pub marked : getD marks (r * 192 + v) 0 ≡ by .mark
   pub arrives : by .edge .arrival ≡ v
   pub exact : tableOf arcs (suc r) v + by .edge .fall ≡ tableOf arcs r (by .edge .departure) + by .edge .rise
 
+-- round r + 1 raised v
 abbrev pub Rose : List Named → ℕ → ℕ → Type 0
 Rose arcs r v = tableOf arcs r v < tableOf arcs (suc r) v
 
@@ -205,5 +190,5 @@ pub record Ran (arcs : List Named) (N rounds node : ℕ) (times marks : List ℕ
   pub still : rounds < N → (v : ℕ) → v < N → tableOf arcs (suc rounds) v ≡ tableOf arcs rounds v
   pub table : (v : ℕ) → v < N → getD times v 0 ≡ tableOf arcs rounds v
   pub rising : (r : ℕ) → r < rounds → (v : ℕ) × (v < N) × Rose arcs r v
-  pub told : (r v : ℕ) → r < rounds → v < N → Rose arcs r v → Told arcs marks r v
+  pub told : (r v : ℕ) → r < rounds → v < N → Rose arcs r v → MarkTold arcs marks r v
   pub last : rounds ≡ N → (node < N) × Rose arcs (N - 1) node

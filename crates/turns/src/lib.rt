@@ -4,17 +4,14 @@
 ghost use mathlib.Core.Path.{_≡_};
 ghost use Prim.Native.Nat.{_+_, _-_, _*_, _≤_, _<_};
 ghost use lib.ListN.{length};
-ghost use Rattle.turns.specs.Rounds.{named, standOf, Able, board, raise, turnOf, Posed, Differs, Filled, Next};
+ghost use Rattle.turns.specs.Rounds.{named, siteOf, Able, board, raise, turnOf, Posed, Differs, Filled, Next};
 
-// The most records of all modes; the marks of a position have so many numbers of their own.
-pub const RECORDS: usize = 4608;
-
-// The most nodes; a row of marks has a place for each.
-pub const NODES: usize = 192;
+// The marks: a row for each round, with a place for each node.
+pub const MARKS: usize = tables::NODES * tables::NODES;
 
 // Where a position stands: the places of its events and of the next position's, what crossing to that costs, how many steps a unit of
 // time has, and the first of its marks.
-pub struct Stand {
+pub struct Site {
     pub here: usize,
     pub next: usize,
     pub cross: u64,
@@ -23,14 +20,14 @@ pub struct Stand {
 }
 
 // The position g + 1. After the last comes the first again, a cycle time later.
-pub fn stand_at(g: usize, n: usize, positions: usize, p: u64, q: u64) -> Stand
+pub fn site_at(g: usize, n: usize, positions: usize, p: u64, q: u64) -> Site
     requires { ⌜ (g < positions) × (positions ≤ 16) × (n ≤ 12) ⌝ }
-    ensures { λ r. ⌜ r ≡ standOf g n positions p q ⌝ }
+    ensures { λ r. ⌜ r ≡ siteOf g n positions p q ⌝ }
 {
     let here = g * n;
-    let mark = g * RECORDS;
+    let mark = g * tables::PLACES;
     if g + 1 == positions {
-        return Stand {
+        return Site {
             here: here,
             next: 0,
             cross: p,
@@ -38,7 +35,7 @@ pub fn stand_at(g: usize, n: usize, positions: usize, p: u64, q: u64) -> Stand
             mark: mark,
         };
     }
-    Stand {
+    Site {
         here: here,
         next: (g + 1) * n,
         cross: 0,
@@ -65,7 +62,7 @@ pub struct Turn {
     pub node: usize,
     pub first: usize,
     pub last: usize,
-    pub at: Stand,
+    pub at: Site,
 }
 
 // The turn at the position g + 1 of the round r + 1.
@@ -75,7 +72,7 @@ pub fn turn_at(left: usize, r: usize, g: usize, node: usize, job: Job, schedule:
 {
     let t = schedule[g] as usize;
     let start = job.start;
-    let at = stand_at(g, job.n, job.positions, job.p, job.q);
+    let at = site_at(g, job.n, job.positions, job.p, job.q);
     Turn {
         left: left,
         round: r,
@@ -95,7 +92,7 @@ fn less(a: u64, b: u64) -> u64
 }
 
 // The mark of the record k of a position.
-fn number(first: usize, k: usize) -> u32
+fn mark_at(first: usize, k: usize) -> u32
     requires { ⌜ (first ≤ 69120) × (k < 4608) ⌝ }
     ensures { λ r. ⌜ r ≡ first + k + 1 ⌝ }
 {
@@ -104,7 +101,7 @@ fn number(first: usize, k: usize) -> u32
 
 // The arc of a record, the i-th of those of the turn, raises the time at its arrival, where that is more than the new table has there.
 pub fn step(
-    w: layout::Window,
+    w: layout::Record,
     turn: Turn,
     i: usize,
     old: &[u64],
@@ -115,14 +112,14 @@ pub fn step(
     ensures { λ _. ⌜ board (now (new .exit)) (now (marks .exit)) ≡ raise (now (old .entry)) (turn .round * 192) (named w (turn .at) (turn .first + i)) (board (now (new .entry)) (now (marks .entry))) ⌝ }
 {
     let at = turn.at;
-    let mark = number(at.mark, turn.first + i);
+    let mark = mark_at(at.mark, turn.first + i);
     let e = layout::edge_of(w, at.q, at.here, at.next, at.cross);
     let departure = e.departure;
     let arrival = e.arrival;
     let most = less(old[departure] + e.rise, e.fall);
     if new[arrival] < most {
         new[arrival] = most;
-        marks[turn.round * NODES + arrival] = mark;
+        marks[turn.round * tables::NODES + arrival] = mark;
     }
 }
 

@@ -1,4 +1,4 @@
--- A local array of windows, in its slot in memory, is its elements side by side, and back: what is lent as a `&[Window]`, and what is freed. For an array of any length.
+-- A local array of records, in its slot in memory, is its elements side by side, and back: what is lent as a `&[Record]`, and what is freed. For an array of any length.
 --     to-row       the slot, with what the array owns, is the elements
 --     from-row     the elements are room for the array again
 --     big-lit      a constant of 1024 or more, which MIR writes as `intBig`: `Types/Run.antt`'s `lit` is for those below
@@ -24,9 +24,9 @@ use denote.Laws.{Is, shows}
 use denote.Memory.{cellAt, partAt, partOf, shares}
 use denote.Steps.{only, peeks}
 use denote.Struct.Laws as LL
-use Rattle.layout.specs.declared.Window.{Window}
-use Rattle.layout.proofs.Window as T
-use Rattle.layout.proofs.Window.Laws as T′
+use Rattle.layout.specs.declared.Record.{Record}
+use Rattle.layout.proofs.Record as T
+use Rattle.layout.proofs.Record.Laws as T′
 
 abbrev R : RattleType
 R = T.the-row
@@ -35,13 +35,13 @@ R = T.the-row
 abbrev pub slot : ℕ → Ty
 slot K = tyArray T′.mir K
 
-abbrev pub vals : List Window → List Val
+abbrev pub vals : List Record → List Val
 vals = array-vals (LL.vals T.the-type T′.the-laws)
 
-abbrev pub machOf : List Window → Val
+abbrev pub machOf : List Record → Val
 machOf xs = only (vals xs)
 
-module _ {M : Type 1} (𝓤 : URA M) (H : Heap 𝓤) (A : Atoms 𝓤) (W : Given 𝓤 H A) (K : ℕ) (xs : List Window) (l : ℕ) where
+module _ {M : Type 1} (𝓤 : URA M) (H : Heap 𝓤) (A : Atoms 𝓤) (W : Given 𝓤 H A) (K : ℕ) (xs : List Record) (l : ℕ) where
   pub to-row : ent 𝓤 (⋆ 𝓤 H A (‵ (fat fullShare (slot K) l 0 (machOf xs)) ∷ ‵ (Array R K .own xs (machOf xs ∷ [])) ∷ [])) (sem 𝓤 H A (arr-parts (shares R) K .part fullShare xs l 0))
   unfolding partOf
   to-row =

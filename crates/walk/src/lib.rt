@@ -4,30 +4,30 @@
 ghost use mathlib.Core.Path.{_≡_};
 ghost use Prim.Native.Nat.{ℕ, _+_, _*_, _<_};
 ghost use lib.ListN.{length, getD};
-ghost use Rattle.layout.specs.Records.{item, nothing};
+ghost use Rattle.layout.specs.Records.{listed};
 ghost use Rattle.turns.specs.Rounds.{Able, board, after, passed, roundOf, turnOf, Posed, Parts, Ran};
 
 // The records of a turn, lent as a part of the list, one after the other.
 fn pass(
-    windows: &[layout::Window],
+    records: &[layout::Record],
     turn: turns::Turn,
     old: &[u64],
     new: &mut [u64],
     marks: &mut [u32],
 )
-    requires { ⌜ ((i : ℕ) → i < length (now windows) → Able (getD (now windows) i (item nothing)) (turn .at) (turn .first + i) (now old) (now new) (now marks) (turn .round * 192)) ⌝ }
-    ensures { λ _. ⌜ board (now (new .exit)) (now (marks .exit)) ≡ after (now (old .entry)) (turn .round * 192) (passed (turn .at) (turn .first) (now (windows .entry))) (board (now (new .entry)) (now (marks .entry))) ⌝ }
+    requires { ⌜ ((i : ℕ) → i < length (now records) → Able (listed (now records) i) (turn .at) (turn .first + i) (now old) (now new) (now marks) (turn .round * 192)) ⌝ }
+    ensures { λ _. ⌜ board (now (new .exit)) (now (marks .exit)) ≡ after (now (old .entry)) (turn .round * 192) (passed (turn .at) (turn .first) (now (records .entry))) (board (now (new .entry)) (now (marks .entry))) ⌝ }
 {
     let mut i: usize = 0;
-    while i < windows.len() {
-        turns::step(windows[i], turn, i, old, &mut new[..], &mut marks[..]);
+    while i < records.len() {
+        turns::step(records[i], turn, i, old, &mut new[..], &mut marks[..]);
         i += 1;
     }
 }
 
 // Walks the list, the part of a position's mode at each turn, while turns are left.
 pub fn walk(
-    list: [layout::Window; 4608],
+    list: [layout::Record; tables::PLACES],
     begin: turns::Turn,
     job: turns::Job,
     schedule: &[u8],
@@ -38,11 +38,11 @@ pub fn walk(
     requires { ⌜ Posed job (now schedule) × Parts list (job .n) (job .start) (now schedule) (job .positions) × (begin ≡ turnOf (job .positions * job .n * job .positions) 0 0 0 job (now schedule)) × (now new ≡ now old) × ((v : ℕ) → getD (now old) v 0 ≡ 0) × (length (now old) ≡ 192) × (length (now marks) ≡ 36864) ⌝ }
     ensures { λ r. ⌜ Ran (roundOf list job (now (schedule .entry))) (job .positions * job .n) (r .round) (r .node) (now (new .exit)) (now (marks .exit)) ⌝ }
 {
-    let windows = &list[..];
+    let records = &list[..];
     let mut turn = begin;
     while 0 < turn.left {
         pass(
-            &windows[turn.first..turn.last],
+            &records[turn.first..turn.last],
             turn,
             old,
             &mut new[..],

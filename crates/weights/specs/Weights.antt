@@ -1,57 +1,67 @@
 -- A circuit's sums, as the code adds them up: "a circuit's total with q = 1 is W + c·(cycle time)". W is ups - downs, c is forths - backs.
+-- These definitions face the code: they speak of the four numbers of each arc, whatever these are. proofs/Held ties them to a circuit's arcs.
+use Prim.Native.Nat.{ℕ, zero, suc, _+_, _*_, _/_, _≤_, _<_}
 use mathlib.Core.Path.{_≡_}
-use mathlib.Core.List.{List, map}
-use Prim.Native.Nat.{ℕ, _+_, _*_, _≤_, _<_}
+use mathlib.Core.List.{List}
 use lib.ListN.{length, getD}
 use lib.IntN.{ℤ}
-use Rattle.theory.specs.Circuits.{ups, downs, forths, backs}
-use Rattle.tables.specs.Sheets.{Sheet, refusal}
-use Rattle.windows.specs.Windows.{Kind, A0, B0, A1, B1}
-use Rattle.windows.specs.Circuits.{Step, limit, stepArc, Valid}
-use Rattle.windows.specs.Buffers.{kindOf}
+use Rattle.tables.specs.Sheets.{Sheet, noWindow, place, refusal}
+use Rattle.windows.specs.Windows.{Event, mode}
+use Rattle.windows.specs.Arcs.{up, down}
 use Rattle.limits.specs.declared.Weight.{Weight}
 
--- the step of four numbers
-abbrev pub stepOf : ℕ → ℕ → ℕ → ℕ → Step
-stepOf kind position to from = record { kind = kindOf kind; position = position; to = to; from = from }
+-- four sums
+abbrev pub weight : ℕ → ℕ → ℕ → ℕ → Weight
+weight u d f b = record { ups = u; downs = d; forths = f; backs = b }
 
--- the limit of the step's window
-abbrev pub limitOf : Sheet → Step → ℤ
-limitOf s c = limit s c
+-- "Weights: q·w for 0, -q·w for 1, q·w for 2, -q·w for 3. Where the window crosses the period end (position V), kind 2 loses p and kind 3
+-- gains p": by the number of the kind, from the parts of the limit and the crossing. A number past 3 is no kind, and adds nothing.
+unfoldable pub kindWeight : ℕ → ℕ → ℕ → ℕ → Weight
+kindWeight zero u d c = weight u d 0 0
+kindWeight (suc zero) u d c = weight d u 0 0
+kindWeight (suc (suc zero)) u d c = weight u d 0 c
+kindWeight (suc (suc (suc zero))) u d c = weight d u c 0
+kindWeight (suc (suc (suc (suc k)))) u d c = weight 0 0 0 0
 
--- "Weights: q·w for 0, -q·w for 1, q·w for 2, -q·w for 3. Where the window crosses the period end, kind 2 loses p and kind 3 gains p", by the
--- parts of the limit and the crossing
-abbrev pub kindWeight : Kind → ℕ → ℕ → ℕ → Weight
-kindWeight A0 u d c = record { ups = u; downs = d; forths = 0; backs = 0 }
-kindWeight B0 u d c = record { ups = d; downs = u; forths = 0; backs = 0 }
-kindWeight A1 u d c = record { ups = u; downs = d; forths = 0; backs = c }
-kindWeight B1 u d c = record { ups = d; downs = u; forths = c; backs = 0 }
+-- the limit that the tables hold for the four numbers of an arc
+abbrev pub limitOf : Sheet → ℕ → ℕ → ℕ → ℕ → ℤ
+limitOf s kind position to from = getD (s .tables) (place (s .n) (mode s position) kind to from) noWindow
 
--- the weight of one arc, and of a circuit
-abbrev pub weightOf : Sheet → Step → Weight
-weightOf s c = record { ups = stepArc s c .up; downs = stepArc s c .down; forths = stepArc s c .forth; backs = stepArc s c .back }
+-- what the arc of four numbers adds
+abbrev pub weightOf : Sheet → ℕ → ℕ → ℕ → ℕ → Weight
+weightOf s kind position to from = let w = limitOf s kind position to from in kindWeight kind (up w) (down w) (position / s .positions)
 
-unfoldable pub weightsOf : Sheet → List Step → Weight
-weightsOf s cs = record { ups = ups (map (stepArc s) cs); downs = downs (map (stepArc s) cs); forths = forths (map (stepArc s) cs); backs = backs (map (stepArc s) cs) }
+-- what the arc at k of a buffer adds
+abbrev pub weightAt : Sheet → List ℕ → ℕ → Weight
+weightAt s circuit k = weightOf s (getD circuit (4 * k) 0) (getD circuit (4 * k + 1) 0) (getD circuit (4 * k + 2) 0) (getD circuit (4 * k + 3) 0)
+
+-- the sums of two lists of arcs together
+abbrev pub plus : Weight → Weight → Weight
+plus a b = weight (a .ups + b .ups) (a .downs + b .downs) (a .forths + b .forths) (a .backs + b .backs)
+
+-- the sums of the first arcs of a buffer
+unfoldable pub weightsIn : Sheet → List ℕ → ℕ → Weight
+weightsIn s circuit zero = weight 0 0 0 0
+weightsIn s circuit (suc k) = plus (weightsIn s circuit k) (weightAt s circuit k)
 
 -- the sums of k arcs are small
 abbrev pub Light : ℕ → Weight → Type 0
 Light k w = (w .ups ≤ k * 2147483648) × (w .downs ≤ k * 2147483648) × (w .forths ≤ k) × (w .backs ≤ k)
 
-abbrev pub plus : Weight → Weight → Weight
-plus a b = record { ups = a .ups + b .ups; downs = a .downs + b .downs; forths = a .forths + b .forths; backs = a .backs + b .backs }
-
--- the four numbers name a window of an admitted sheet
-pub record Names (s : Sheet) (kind position to from : ℕ) : Type 0 where
+-- the four numbers name a place of the tables of an admitted sheet
+pub record NamesPlace (s : Sheet) (kind position to from : ℕ) : Type 0 where
   pub admitted : refusal s ≡ 0
   pub few-kinds : kind < 4
-  pub valid : Valid s (stepOf kind position to from)
+  pub from-first : 1 ≤ position
+  pub to-last : position ≤ s .positions
+  pub to-event : Event s to
+  pub from-event : Event s from
 
--- the arc at k of a buffer is a window of an admitted sheet
+-- so do those of the arc at k of a buffer
 abbrev pub NamesAt : Sheet → List ℕ → ℕ → Type 0
-NamesAt s circuit k = Names s (getD circuit (4 * k) 0) (getD circuit (4 * k + 1) 0) (getD circuit (4 * k + 2) 0) (getD circuit (4 * k + 3) 0)
+NamesAt s circuit k = NamesPlace s (getD circuit (4 * k) 0) (getD circuit (4 * k + 1) 0) (getD circuit (4 * k + 2) 0) (getD circuit (4 * k + 3) 0)
 
--- so are all of its first arcs
+-- and those of all its first arcs
 pub record Lists (s : Sheet) (circuit : List ℕ) (count : ℕ) : Type 0 where
   pub long : 4 * count ≤ length circuit
   pub few : count ≤ 192

@@ -2,12 +2,12 @@
 // This crate knows a circuit's four numbers an arc and what each adds; it knows no cycle time.
 // It renders document 01's weights and crossings of "Arcs", and W and c of "Circuits".
 use limits::Weight;
+use numbers::wide;
 ghost use mathlib.Core.Path.{_≡_};
 ghost use Prim.Native.Nat.{_/_, _+_, _*_, _-_, _≤_, _<_};
 ghost use lib.ListN.{length, getD};
 ghost use Rattle.tables.specs.Sheets.{sheet, place};
-ghost use Rattle.windows.specs.Buffers.{kindOf, stepAt, stepsIn};
-ghost use Rattle.weights.specs.Weights.{stepOf, limitOf, kindWeight, weightOf, weightsOf, Light, plus, Names, NamesAt, Lists};
+ghost use Rattle.weights.specs.Weights.{weight, kindWeight, limitOf, weightOf, weightAt, plus, weightsIn, Light, NamesPlace, NamesAt, Lists};
 
 // The mode at a position of the schedule.
 fn mode_at(schedule: &[u8], position: usize) -> usize
@@ -38,18 +38,12 @@ fn limit(
     to: u8,
     from: u8,
 ) -> i32
-    requires { ⌜ Names (sheet n m positions (now tables) (now schedule)) kind position to from ⌝ }
-    ensures { λ r. ⌜ r ≡ limitOf (sheet n m positions (now (tables .entry)) (now (schedule .entry))) (stepOf kind position to from) ⌝ }
+    requires { ⌜ NamesPlace (sheet n m positions (now tables) (now schedule)) kind position to from ⌝ }
+    ensures { λ r. ⌜ r ≡ limitOf (sheet n m positions (now (tables .entry)) (now (schedule .entry))) kind position to from ⌝ }
 {
     let t = mode_at(schedule, wide(position));
     let at = place_of(n, t, wide(kind), wide(to), wide(from));
     tables[at]
-}
-
-fn wide(byte: u8) -> usize
-    ensures { λ r. ⌜ r ≡ byte ⌝ }
-{
-    byte as usize
 }
 
 // 1 where what follows a position lies in the next period, else 0.
@@ -60,36 +54,29 @@ fn crossing(positions: usize, position: u8) -> u64
     if wide(position) == positions { 1 } else { 0 }
 }
 
+// Four sums as one value.
+fn sums(ups: u64, downs: u64, forths: u64, backs: u64) -> Weight
+    ensures { λ r. ⌜ r ≡ weight ups downs forths backs ⌝ }
+{
+    Weight {
+        ups: ups,
+        downs: downs,
+        forths: forths,
+        backs: backs,
+    }
+}
+
 // What an arc of a kind adds, from the parts of its limit: the kind decides the direction, and so which part counts up, and whether crossing
 // the period's end gains or loses the cycle time.
 fn by_kind(kind: u8, up: u64, down: u64, crosses: u64) -> Weight
-    ensures { λ r. ⌜ r ≡ kindWeight (kindOf kind) up down crosses ⌝ }
+    ensures { λ r. ⌜ r ≡ kindWeight kind up down crosses ⌝ }
 {
     match kind {
-        0 => Weight {
-            ups: up,
-            downs: down,
-            forths: 0,
-            backs: 0,
-        },
-        1 => Weight {
-            ups: down,
-            downs: up,
-            forths: 0,
-            backs: 0,
-        },
-        2 => Weight {
-            ups: up,
-            downs: down,
-            forths: 0,
-            backs: crosses,
-        },
-        3..=255 => Weight {
-            ups: down,
-            downs: up,
-            forths: crosses,
-            backs: 0,
-        },
+        0 => sums(up, down, 0, 0),
+        1 => sums(down, up, 0, 0),
+        2 => sums(up, down, 0, crosses),
+        3 => sums(down, up, crosses, 0),
+        4..=255 => sums(0, 0, 0, 0),
     }
 }
 
@@ -105,8 +92,8 @@ fn weigh_arc(
     to: u8,
     from: u8,
 ) -> Weight
-    requires { ⌜ Names (sheet n m positions (now tables) (now schedule)) kind position to from ⌝ }
-    ensures { λ r. ⌜ (r ≡ weightOf (sheet n m positions (now (tables .entry)) (now (schedule .entry))) (stepOf kind position to from)) × Light 1 r ⌝ }
+    requires { ⌜ NamesPlace (sheet n m positions (now tables) (now schedule)) kind position to from ⌝ }
+    ensures { λ r. ⌜ (r ≡ weightOf (sheet n m positions (now (tables .entry)) (now (schedule .entry))) kind position to from) × Light 1 r ⌝ }
 {
     let value = limit(n, m, positions, tables, schedule, kind, position, to, from);
     let up = layout::upper(value);
@@ -120,12 +107,12 @@ fn add(a: Weight, b: Weight) -> Weight
     requires { ⌜ Light 192 a × Light 1 b ⌝ }
     ensures { λ r. ⌜ r ≡ plus a b ⌝ }
 {
-    Weight {
-        ups: a.ups + b.ups,
-        downs: a.downs + b.downs,
-        forths: a.forths + b.forths,
-        backs: a.backs + b.backs,
-    }
+    sums(
+        a.ups + b.ups,
+        a.downs + b.downs,
+        a.forths + b.forths,
+        a.backs + b.backs,
+    )
 }
 
 // What the arc at k of a circuit adds.
@@ -139,7 +126,7 @@ fn weigh_at(
     k: usize,
 ) -> Weight
     requires { ⌜ (k < 192) × (4 * k + 3 < length (now circuit)) × NamesAt (sheet n m positions (now tables) (now schedule)) (now circuit) k ⌝ }
-    ensures { λ r. ⌜ (r ≡ weightOf (sheet n m positions (now (tables .entry)) (now (schedule .entry))) (stepAt (now (circuit .entry)) k)) × Light 1 r ⌝ }
+    ensures { λ r. ⌜ (r ≡ weightAt (sheet n m positions (now (tables .entry)) (now (schedule .entry))) (now (circuit .entry)) k) × Light 1 r ⌝ }
 {
     let at = 4 * k;
     let kind = circuit[at];
@@ -160,14 +147,9 @@ pub fn weigh(
     count: usize,
 ) -> Weight
     requires { ⌜ Lists (sheet n m positions (now tables) (now schedule)) (now circuit) count ⌝ }
-    ensures { λ r. ⌜ (r ≡ weightsOf (sheet n m positions (now (tables .entry)) (now (schedule .entry))) (stepsIn (now (circuit .entry)) count)) × Light 192 r ⌝ }
+    ensures { λ r. ⌜ (r ≡ weightsIn (sheet n m positions (now (tables .entry)) (now (schedule .entry))) (now (circuit .entry)) count) × Light 192 r ⌝ }
 {
-    let mut total = Weight {
-        ups: 0,
-        downs: 0,
-        forths: 0,
-        backs: 0,
-    };
+    let mut total = sums(0, 0, 0, 0);
     let mut k: usize = 0;
     while k < count {
         let arc = weigh_at(n, m, positions, tables, schedule, circuit, k);

@@ -1,7 +1,6 @@
 -- The inequalities over the endless schedule and the arcs of one period mean the same.
 use mathlib.Core.Path.{_≡_, refl, sym, ap, _∙_}
 use mathlib.Core.Logic.{_↔_}
-use mathlib.Core.List.{List·Memᴰ}
 use Prim.Native.Nat.{ℕ, zero, suc, pred, _+_, _-_, _*_, _/_, _%_, _≤_, _<_, max}
 use native.Mathlib.Omega.{arith}
 use native.Mathlib.Nat.{mod-lt, mod-mod, suc-mod, mod-eq-of-lt, div-eq-of-lt, div-add-mod', mod-add-div', mul-add-div-right, mul-add-mod-self-right, add-mod-right, add-div-right, mul-le-mul-right}
@@ -112,6 +111,7 @@ module _ (s : Sheet) (some : 0 < s .positions) where
 
   -- ---- the times t of the nodes, continued: each period later by p
 
+  -- THEOREM: they are periodic
   pub continued-periodic : (p : ℕ) (t : ℕ → ℤ) → Periodic s p (continued s p t)
   continued-periodic p t zero i first event = absurd (omega arith)
   continued-periodic p t (suc g) i first event =

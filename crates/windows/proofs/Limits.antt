@@ -1,7 +1,7 @@
 -- An admitted sheet's windows are within their limits, so its arcs are laid as the theory asks, with limits up to 1,000,000 and n crossings.
 use mathlib.Core.Path.{_≡_, refl, sym, ap, _∙_}
 use mathlib.Core.Logic.{_≢_}
-use mathlib.Core.Bool.{Bool, true, false}
+use mathlib.Core.Bool.{Bool, true, false, _||_}
 use mathlib.Core.List.{List, [], _∷_}
 use Prim.Native.Nat.{ℕ, zero, suc, pred, _+_, _-_, _*_, _%_, _≤_, _<_}
 use native.Mathlib.Omega.{arith}
@@ -11,11 +11,11 @@ use lib.Dec.{leb, ltb}
 use lib.ListN.{getD, length}
 use lib.IntN.{ℤ, pos, negsuc}
 use Rattle.theory.proofs.Sums.{Laid}
-use Rattle.tables.specs.Sheets.{Sheet, noWindow, place, places, absent, or, admits}
-use Rattle.tables.proofs.Laws.{Admitted}
+use Rattle.tables.specs.Sheets.{Sheet, noWindow, place, places, absent, admits}
+use Rattle.tables.specs.Admitted.{Admitted}
+use Rattle.tables.proofs.Laws.{absent-is}
 use Rattle.windows.specs.Windows.{Kind, A0, B0, A1, B1, number, Window, Has, mode}
 use Rattle.windows.specs.Arcs.{up, down, nodes, arcs}
-use Rattle.windows.proofs.Listed.{absent-none}
 use Rattle.windows.proofs.Laying.{arcs-laid}
 
 pub number-small : (k : Kind) → number k ≤ 3
@@ -24,10 +24,10 @@ number-small B0 = omega arith
 number-small A1 = omega arith
 number-small B1 = omega arith
 
--- a window's place lies within the tables
 place-row : (a n to : ℕ) → 1 ≤ to → to ≤ n → a * n + (to - 1) + 1 ≤ (a + 1) * n
 place-row a n to first last = omega arith
 
+-- THEOREM: a window's place lies within the tables
 pub place-below : (n m t kind to from : ℕ) → t < m → kind ≤ 3 → 1 ≤ to → to ≤ n → 1 ≤ from → from ≤ n → place n t kind to from < places n m
 place-below n m t kind to from modes few first last first′ last′ =
     let row = place-row (4 * t + kind) n to first last in
@@ -45,14 +45,14 @@ getD-any (a ∷ l) (suc i) d e h = getD-any l i d e (omega arith)
 pub admits-limit : (v : ℤ) → admits v ≡ true → v ≢ noWindow → (up v ≤ 1000000) × (down v ≤ 1000000)
 admits-limit (pos a) e some = (go (leb a 1000000) refl e, omega arith)
   where
-    go : (b : Bool) → leb a 1000000 ≡ b → or b false ≡ true → a ≤ 1000000
+    go : (b : Bool) → leb a 1000000 ≡ b → (b || false) ≡ true → a ≤ 1000000
     go true t e = leb-true a 1000000 t
     go false t e = let z : _≡_ {A = ℕ} 0 1 = cc in absurd (omega arith)
 admits-limit (negsuc a) e some = (omega arith, go (ltb a 1000000) refl e)
   where
-    go : (b : Bool) → ltb a 1000000 ≡ b → or b (absent (negsuc a)) ≡ true → suc a ≤ 1000000
+    go : (b : Bool) → ltb a 1000000 ≡ b → (b || absent (negsuc a)) ≡ true → suc a ≤ 1000000
     go true t e = ltb-true a 1000000 t
-    go false t e = absurd (some (absent-none (negsuc a) e))
+    go false t e = absurd (some (absent-is (negsuc a) e))
 
 module _ (s : Sheet) (ok : Admitted s) where
   -- the mode at a position is below m

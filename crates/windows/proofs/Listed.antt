@@ -1,17 +1,17 @@
 -- The lists of windows and arcs hold what the tables hold, and nothing else.
-use mathlib.Core.Path.{_≡_, refl, sym, ap, _∙_, subst}
+use mathlib.Core.Path.{_≡_, refl, sym, ap, ap₂, _∙_}
 use mathlib.Core.Logic.{_≢_, inl, inr}
 use mathlib.Core.Bool.{Bool, true, false}
-use mathlib.Core.List.{List, [], _∷_, _++_, append-assoc, List·Memᴰ, List·Memᴰ·head, List·Memᴰ·tail, List·Memᴰ·not-nil, List·Memᴰ·append-cases, List·Memᴰ·eq-of-singleton, Memᴰ·append-left, Memᴰ·append-right, Memᴰ·cast, Memᴰ·map, Memᴰ·of-map}
+use mathlib.Core.List.{List, [], _∷_, _++_, append-assoc, List·Memᴰ, List·Memᴰ·head, List·Memᴰ·tail, List·Memᴰ·not-nil, List·Memᴰ·append-cases, List·Memᴰ·eq-of-singleton, Memᴰ·append-left, Memᴰ·append-right, Memᴰ·cast, Memᴰ·map, Memᴰ·of-map, append-nil}
 use Prim.Native.Nat.{ℕ, zero, suc, _+_, _≤_}
 use native.Mathlib.Omega.{arith}
 use native.Mathlib.Decide.{decLe}
-use lib.Dec.{T, eqb→eq}
-use lib.IntN.{ℤ, pos, negsuc}
+use lib.IntN.{ℤ}
 use Rattle.theory.specs.Arcs.{Arc}
 use Rattle.tables.specs.Sheets.{Sheet, noWindow, absent}
+use Rattle.tables.proofs.Laws.{absent-is}
 use Rattle.windows.specs.Windows.{Kind, A0, B0, A1, B1, Window, Event, entry, Has, mode}
-use Rattle.windows.specs.Arcs.{arcOf, oneTo, each, kinds, unless, window, windowAt, windowsTo, windowsOf, windows, arcsAt, arcs}
+use Rattle.windows.specs.Arcs.{arcOf, oneTo, each, kinds, unlessAbsent, window, windowAt, windowsTo, windowsOf, windows, arcsAt, arcs}
 
 -- ---- joined lists
 
@@ -43,17 +43,22 @@ one-to-of (suc n) m =
       | inr k ↦ let e = List·Memᴰ·eq-of-singleton k in (omega arith, omega arith)
     ]
 
+-- lists joined of equal parts
+pub each-same : {A B : Type 0} (l : List A) (f g : A → List B) → ((a : A) → List·Memᴰ a l → f a ≡ g a) → each l f ≡ each l g
+each-same [] f g e = refl
+each-same (a ∷ l) f g e = ap₂ (λ x y. x ++ y) (e a (List·Memᴰ·head refl)) (each-same l f g (λ b m. e b (List·Memᴰ·tail m)))
+
+-- and of 1 to n
+pub each-one-to : {B : Type 0} (n : ℕ) (f g : ℕ → List B) → ((i : ℕ) → 1 ≤ i → i ≤ n → f i ≡ g i) → each (oneTo n) f ≡ each (oneTo n) g
+each-one-to n f g e = each-same (oneTo n) f g (λ i m. let h = one-to-of n m in e i (h .0) (h .1))
+
 -- one more position or event
 each-append : {A B : Type 0} (l m : List A) (f : A → List B) → each (l ++ m) f ≡ each l f ++ each m f
 each-append [] m f = refl
 each-append (a ∷ l) m f = ap (λ (r : List _). f a ++ r) (each-append l m f) ∙ sym (append-assoc (f a) (each l f) (each m f))
 
-append-none : {B : Type 0} (l : List B) → l ++ [] ≡ l
-append-none [] = refl
-append-none {B} (a ∷ l) = ap (λ (r : List B). a ∷ r) (append-none l)
-
 pub each-more : {B : Type 0} (n : ℕ) (f : ℕ → List B) → each (oneTo (suc n)) f ≡ each (oneTo n) f ++ f (suc n)
-each-more n f = each-append (oneTo n) (suc n ∷ []) f ∙ ap (λ (r : List _). each (oneTo n) f ++ r) (append-none (f (suc n)))
+each-more n f = each-append (oneTo n) (suc n ∷ []) f ∙ ap (λ (r : List _). each (oneTo n) f ++ r) (append-nil (f (suc n)))
 
 -- ---- windows
 
@@ -66,10 +71,6 @@ kinds-in B1 = List·Memᴰ·tail (List·Memᴰ·tail (List·Memᴰ·tail (List·
 clash : true ≡ false → ⊥
 clash e = let z : _≡_ {A = ℕ} 0 1 = cc in omega arith
 
-pub absent-none : (v : ℤ) → absent v ≡ true → v ≡ noWindow
-absent-none (pos a) e = absurd (clash (sym e))
-absent-none (negsuc a) e = ap negsuc (eqb→eq a 2147483647 (subst T (sym e) tt))
-
 pub absent-some : (v : ℤ) → absent v ≡ false → v ≢ noWindow
 absent-some v e n = clash (ap absent (sym n) ∙ e)
 
@@ -77,14 +78,14 @@ pub some-absent : (v : ℤ) → v ≢ noWindow → absent v ≡ false
 some-absent v some = go (absent v) refl
   where
     go : (d : Bool) → absent v ≡ d → absent v ≡ false
-    go true e = absurd (some (absent-none v e))
+    go true e = absurd (some (absent-is v e))
     go false e = e
 
-unless-in : (d : Bool) (a : Window) → d ≡ false → List·Memᴰ a (unless d a)
+unless-in : (d : Bool) (a : Window) → d ≡ false → List·Memᴰ a (unlessAbsent d a)
 unless-in true a e = absurd (clash e)
 unless-in false a e = List·Memᴰ·head refl
 
-unless-of : (d : Bool) (a : Window) {b : Window} → List·Memᴰ b (unless d a) → (b ≡ a) × (d ≡ false)
+unless-of : (d : Bool) (a : Window) {b : Window} → List·Memᴰ b (unlessAbsent d a) → (b ≡ a) × (d ≡ false)
 unless-of true a m = absurd (List·Memᴰ·not-nil m)
 unless-of false a m = (List·Memᴰ·eq-of-singleton m, refl)
 
@@ -115,6 +116,7 @@ module _ (s : Sheet) (t : ℕ) where
 -- ---- arcs
 
 module _ (s : Sheet) where
+  -- THEOREM: each window at each position is one of the arcs
   pub arcs-in : (h : ℕ) → 1 ≤ h → h ≤ s .positions → (a : Window) → Has s (mode s h) a → List·Memᴰ (arcOf s h a) (arcs s)
   unfolding arcs
   arcs-in h first last a is = each-in (arcsAt s) (one-to-in (s .positions) h first last) (Memᴰ·map (arcOf s h) (windows-in s (mode s h) a is))
@@ -128,6 +130,7 @@ module _ (s : Sheet) where
     pub has : Has s (mode s position) of
     pub is : arcOf s position of ≡ b
 
+  -- THEOREM: and each arc is that of a window at a position
   pub arcs-of : (b : Arc) → List·Memᴰ b (arcs s) → Origin b
   unfolding arcs
   arcs-of b m =

@@ -8,11 +8,12 @@ use Rattle.tables.specs.Sheets.{Sheet, absent}
 use Rattle.windows.specs.Windows.{Kind, A0, B0, A1, B1, Window, entry, mode}
 use Rattle.windows.specs.Inequalities.{Times}
 
--- A whole number is up - down, one of them 0.
+-- A whole number is up - down, one of them 0: how much it lies above 0,
 abbrev pub up : ℤ → ℕ
 up (pos a) = a
 up (negsuc a) = 0
 
+-- and how much below.
 abbrev pub down : ℤ → ℕ
 down (pos a) = 0
 down (negsuc a) = suc a
@@ -49,6 +50,7 @@ module _ (s : Sheet) where
   arc h A1 i j w = link h j (suc h) i (up w) (down w)
   arc h B1 i j w = link (suc h) i h j (down w) (up w)
 
+  -- the arc of a window at position h
   abbrev pub arcOf : ℕ → Window → Arc
   arcOf h a = arc h (a .kind) (a .to) (a .from) (a .w)
 
@@ -64,34 +66,40 @@ abbrev pub each : {A B : Type 0} → List A → (A → List B) → List B
 each [] f = []
 each (a ∷ rest) f = f a ++ each rest f
 
+-- the kinds, by their numbers
 abbrev pub kinds : List Kind
 kinds = A0 ∷ B0 ∷ A1 ∷ B1 ∷ []
 
 -- the window, unless it is "no window"
-abbrev pub unless : Bool → Window → List Window
-unless true a = []
-unless false a = a ∷ []
+abbrev pub unlessAbsent : Bool → Window → List Window
+unlessAbsent true a = []
+unlessAbsent false a = a ∷ []
 
 module _ (s : Sheet) where
+  -- what the tables hold for mode t, kind, to and from, as a window, even where it is "no window"
   abbrev pub window : ℕ → Kind → ℕ → ℕ → Window
   window t k i j = record { kind = k; to = i; from = j; w = entry s t k i j }
 
-  -- The windows present in mode t, rising by kind, then to, then from: with all three given, with kind and to, with the kind, all.
+  -- The windows present in mode t, rising by kind, then to, then from: with all three given,
   abbrev pub windowAt : ℕ → Kind → ℕ → ℕ → List Window
-  windowAt t k i j = unless (absent (entry s t k i j)) (window t k i j)
+  windowAt t k i j = unlessAbsent (absent (entry s t k i j)) (window t k i j)
 
+  -- with kind and to given,
   abbrev pub windowsTo : ℕ → Kind → ℕ → List Window
   windowsTo t k i = each (oneTo (s .n)) (windowAt t k i)
 
+  -- with the kind given,
   abbrev pub windowsOf : ℕ → Kind → List Window
   windowsOf t k = each (oneTo (s .n)) (windowsTo t k)
 
+  -- and all.
   unfoldable pub windows : ℕ → List Window
   windows t = each kinds (windowsOf t)
 
-  -- "Each window at each position is one arc": the arcs of position h, and all.
+  -- "Each window at each position is one arc": the arcs of position h,
   abbrev pub arcsAt : ℕ → List Arc
   arcsAt h = map (arcOf s h) (windows (mode s h))
 
+  -- and of all positions.
   unfoldable pub arcs : List Arc
   arcs = each (oneTo (s .positions)) arcsAt

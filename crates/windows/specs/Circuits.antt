@@ -22,10 +22,11 @@ numbers [] = []
 numbers (c ∷ rest) = number (c .kind) ∷ c .position ∷ c .to ∷ c .from ∷ numbers rest
 
 module _ (s : Sheet) where
-  -- the limit of the step's window, and its arc
+  -- the limit of the step's window
   abbrev pub limit : Step → ℤ
   limit c = entry s (mode s (c .position)) (c .kind) (c .to) (c .from)
 
+  -- the step's arc
   abbrev pub stepArc : Step → Arc
   stepArc c = arc s (c .position) (c .kind) (c .to) (c .from) (limit c)
 
@@ -37,6 +38,7 @@ module _ (s : Sheet) where
     pub from-event : Event s (c .from)
     pub present : limit c ≢ noWindow
 
+  -- It has the windows of all steps.
   abbrev pub AllValid : List Step → Type 0
   AllValid [] = Unit {0}
   AllValid (c ∷ rest) = Valid c × AllValid rest

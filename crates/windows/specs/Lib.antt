@@ -2,4 +2,3 @@ pub mod Windows
 pub mod Inequalities
 pub mod Arcs
 pub mod Circuits
-pub mod Buffers

@@ -10,6 +10,7 @@ use Rattle.tables.specs.Sheets.{Sheet, noWindow, place}
 pub data Kind : Type 0 where
   A0 B0 A1 B1 : Kind
 
+-- the number of a kind
 abbrev pub number : Kind → ℕ
 number A0 = 0
 number B0 = 1

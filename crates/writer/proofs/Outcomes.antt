@@ -7,7 +7,7 @@ use borrow.Author.Tests.{ne-eqb, le-leb, lt-leb}
 use lib.ListN.{length}
 use Rattle.tables.specs.Sheets.{Sheet, refusal}
 use Rattle.sheet.specs.Written.{sheetNumbers, written}
-use Rattle.sheet.specs.Answers.{Answer}
+use Rattle.tables.specs.Answers.{Answer}
 use Rattle.sheet.proofs.Sets.{front}
 use Rattle.writer.specs.Answers.{answerWritten, Writing, Writes}
 use Rattle.writer.specs.Steps.{State, state, run}
@@ -42,6 +42,6 @@ answer-written (wrote.Done n) (wrote.Refused k) e = let q : n ∷ [] ≡ [] = ap
 answer-written (wrote.Refused k) (wrote.Done n) e = let q : [] ≡ n ∷ [] = ap (λ (t : Answer). t .values) e in cc
 answer-written (wrote.Refused j) (wrote.Refused k) e = ap wrote.Refused (ap (λ (t : Answer). t .number) e)
 
--- two outcomes of writing that meet the relation are equal
+-- THEOREM: two outcomes of writing the same sheet are equal: the answer and the buffer
 pub writes-unique : (s : Sheet) (out₀ : List ℕ) (a b : Written) (u v : List ℕ) → Writes s out₀ a u → Writes s out₀ b v → (a ≡ b) × (u ≡ v)
 writes-unique s out₀ a b u v p q = let e = p ∙ sym q in (answer-written a b (ap (λ (r : Writing). r .answer) e), ap (λ (r : Writing). r .out) e)

@@ -11,8 +11,8 @@ use lib.ListN.{length, take, drop, getD, length-drop}
 use lib.Seq.{drop-cons, drop-drop, take-all}
 use Rattle.numbers.specs.Signs.{encoded}
 use Rattle.tables.specs.Sheets.{absent}
-use Rattle.sheet.specs.File.{Window}
-use Rattle.sheet.specs.Written.{cell, windowsOf, records, modeNumbers, modesNumbers}
+use Rattle.sheet.specs.File.{Placed}
+use Rattle.sheet.specs.Written.{cell, placedOf, records, modeNumbers, modesNumbers}
 use Rattle.sheet.proofs.Counting.{one, none}
 use Rattle.sheet.proofs.Parts.{cell-absent, cell-present, cell-few, windows-few}
 use Rattle.writer.specs.Steps.{State, state, run}
@@ -30,16 +30,16 @@ pub rest-all : {A : Type 0} (a : ℕ) (xs : List A) → take (length xs - a) (dr
 rest-all a xs = take-all (length xs - a) (drop a xs) (omega (arith, length-drop a xs))
 
 -- ---- the windows of a part: k places are passed
-abbrev pub left : List ℤ → ℕ → ℕ → List Window
-left part size k = windowsOf k (take (size - k) (drop k part))
+abbrev pub left : List ℤ → ℕ → ℕ → List Placed
+left part size k = placedOf k (take (size - k) (drop k part))
 
 module _ (part : List ℤ) (size k : ℕ) where
   pub left-cons : k < size → k < length part → left part size k ≡ cell k (getD part k (pos 0)) ++ left part size (k + 1)
-  unfolding windowsOf
+  unfolding placedOf
   left-cons h g = rw (rest-cons part size k (pos 0) h g)
 
   pub left-none : size ≤ k → left part size k ≡ []
-  unfolding windowsOf
+  unfolding placedOf
   left-none h = rw (rest-none (drop k part) size k h)
 
 pub count-absent : (part : List ℤ) (size k : ℕ) → k < size → k < length part → absent (getD part k (pos 0)) ≡ true → length (left part size k) ≡ length (left part size (k + 1))
@@ -51,12 +51,12 @@ count-present part size k h g e = rw (left-cons part size k h g, cell-present k 
     more : (n : ℕ) → suc n ≡ 1 + n
     more n = omega arith
 
-pub records-append : (n : ℕ) (a b : List Window) → records n (a ++ b) ≡ records n a ++ records n b
+pub records-append : (n : ℕ) (a b : List Placed) → records n (a ++ b) ≡ records n a ++ records n b
 unfolding records
 records-append n [] b = refl
 records-append n (w ∷ a) b = ap (λ (l : List ℕ). (w .place / (n * n)) ∷ (w .place / n % n + 1) ∷ (w .place % n + 1) ∷ encoded (w .limit) ∷ l) (records-append n a b)
 
-pub length-records : (n : ℕ) (a : List Window) → length (records n a) ≡ 4 * length a
+pub length-records : (n : ℕ) (a : List Placed) → length (records n a) ≡ 4 * length a
 unfolding records
 length-records n [] = refl
 length-records n (w ∷ a) = omega (arith, length-records n a)
@@ -70,7 +70,7 @@ module _ (part : List ℤ) (size k n : ℕ) (out : List ℕ) (p : ℕ) (whole : 
 
   pub windows-done : size ≤ k → state p out ≡ whole
   unfolding records
-  windows-done h = run-none out p ∙ ap (λ (l : List Window). run out p (records n l)) (sym (left-none part size k h)) ∙ e
+  windows-done h = run-none out p ∙ ap (λ (l : List Placed). run out p (records n l)) (sym (left-none part size k h)) ∙ e
 
 pub cell-short : (n k : ℕ) (v : ℤ) (out : List ℕ) (p r : ℕ) (now : List ℕ) → state r now ≡ run out p (records n (cell k v)) → r ≤ p + 16
 cell-short n k v out p r now e = omega (arith, run-few out p (records n (cell k v)) r now e, length-records n (cell k v), cell-few k v)
@@ -83,9 +83,9 @@ left-split zero part c a h g = rw (left-none part (a + zero) a (omega arith)) (a
     same a = omega arith
 left-split (suc d) part c a h g =
     left-cons part c a (omega arith) (omega arith)
-    ∙ ap (λ (l : List Window). cell a (getD part a (pos 0)) ++ l) (left-split d part c (a + 1) (omega arith) (omega arith) ∙ ap (λ (k : ℕ). left part k (a + 1) ++ left part c k) (same a d))
+    ∙ ap (λ (l : List Placed). cell a (getD part a (pos 0)) ++ l) (left-split d part c (a + 1) (omega arith) (omega arith) ∙ ap (λ (k : ℕ). left part k (a + 1) ++ left part c k) (same a d))
     ∙ sym (append-assoc (cell a (getD part a (pos 0))) (left part (a + suc d) (a + 1)) (left part c (a + suc d)))
-    ∙ ap (λ (l : List Window). l ++ left part c (a + suc d)) (sym (left-cons part (a + suc d) a (omega arith) (omega arith)))
+    ∙ ap (λ (l : List Placed). l ++ left part c (a + suc d)) (sym (left-cons part (a + suc d) a (omega arith) (omega arith)))
   where
     same : (a d : ℕ) → a + 1 + d ≡ a + suc d
     same a d = omega arith
@@ -108,12 +108,12 @@ module _ (part : List ℤ) (n kind : ℕ) (out : List ℕ) (p : ℕ) (whole : St
 
   pub kinds-done : 4 ≤ kind → state p out ≡ whole
   unfolding records
-  kinds-done h = run-none out p ∙ ap (λ (l : List Window). run out p (records n l)) (sym (left-none part (4 * (n * n)) (kind * (n * n)) (mul-le-mul-right (n * n) h))) ∙ e
+  kinds-done h = run-none out p ∙ ap (λ (l : List Placed). run out p (records n l)) (sym (left-none part (4 * (n * n)) (kind * (n * n)) (mul-le-mul-right (n * n) h))) ∙ e
 
 -- ---- the modes: t of them are passed
 pub mode-short : (n : ℕ) (part : List ℤ) (out : List ℕ) (p r : ℕ) (now : List ℕ) → length part ≤ 576 → state r now ≡ run out p (modeNumbers n part) → r ≤ p + 9220
 unfolding modeNumbers
-mode-short n part out p r now h e = omega (arith, run-few out p (modeNumbers n part) r now e, length-records n (windowsOf 0 part), windows-few 0 part)
+mode-short n part out p r now h e = omega (arith, run-few out p (modeNumbers n part) r now e, length-records n (placedOf 0 part), windows-few 0 part)
 
 module _ (tables : List ℤ) (n m t : ℕ) (out : List ℕ) (p : ℕ) (whole : State) (e : run out p (modesNumbers n (m - t) (drop (t * (4 * (n * n))) tables)) ≡ whole) where
   pub modes-next : t < m → (r : ℕ) (now : List ℕ) → state r now ≡ run out p (modeNumbers n (take (4 * (n * n)) (drop (t * (4 * (n * n))) tables)))

@@ -1,6 +1,6 @@
 -- What was written is read, as a caller sees it: what the writer answered and left, handed to the reader.
 use mathlib.Core.Path.{_≡_, refl, sym, ap, _∙_}
-use mathlib.Core.Bool.{Bool, true, false}
+use mathlib.Core.Bool.{Bool, true, false, cond}
 use mathlib.Core.List.{List, [], _∷_, _++_}
 use Prim.Native.Nat.{ℕ, _≤_}
 use native.Mathlib.Omega.{arith}
@@ -8,7 +8,6 @@ use borrow.Author.Tests.{leb-true, eqb-true}
 use lib.Dec.{leb, eqb}
 use lib.ListN.{length, take, drop}
 use lib.Seq.{take-at}
-use Rattle.numbers.specs.Groups.{pick}
 use Rattle.tables.specs.Sheets.{Sheet, exact, refusal}
 use Rattle.sheet.proofs.Answers.{filled}
 use Rattle.sheet.specs.File.{got, sheetIn}
@@ -28,18 +27,18 @@ pub done-written : (s : Sheet) (out₀ : List ℕ) (k : ℕ) (out : List ℕ) �
 done-written s out₀ k out e = judged (eqb (refusal s) 0) refl e
   where
     room : refusal s ≡ 0 → (b : Bool) → leb (length (written s)) (length out₀) ≡ b
-        → writing (record { number = 0; values = k ∷ [] }) out ≡ pick b (writing (record { number = 0; values = length (written s) ∷ [] }) (written s ++ drop (length (written s)) out₀)) (unwritten 9 out₀) → Wrote s out₀ k out
+        → writing (record { number = 0; values = k ∷ [] }) out ≡ cond b (writing (record { number = 0; values = length (written s) ∷ [] }) (written s ++ drop (length (written s)) out₀)) (unwritten 9 out₀) → Wrote s out₀ k out
     room a true q e =
         let v : k ∷ [] ≡ length (written s) ∷ [] = ap (λ (w : Writing). w .answer .values) e in
         let l : k ≡ length (written s) = cc in
         record { admitted = a; long = l; fits = omega (arith, leb-true (length (written s)) (length out₀) q); bytes = ap (λ (w : Writing). w .out) e ∙ ap (λ (j : ℕ). written s ++ drop j out₀) (sym l) }
     room a false q e = absurd (filled k [] (ap (λ (w : Writing). w .answer .values) e))
 
-    judged : (b : Bool) → eqb (refusal s) 0 ≡ b → writing (record { number = 0; values = k ∷ [] }) out ≡ pick b (writeInto (written s) out₀) (unwritten (refusal s) out₀) → Wrote s out₀ k out
+    judged : (b : Bool) → eqb (refusal s) 0 ≡ b → writing (record { number = 0; values = k ∷ [] }) out ≡ cond b (writeInto (written s) out₀) (unwritten (refusal s) out₀) → Wrote s out₀ k out
     judged true q e = room (eqb-true _ _ q) (leb (length (written s)) (length out₀)) refl e
     judged false q e = absurd (filled k [] (ap (λ (w : Writing). w .answer .values) e))
 
--- reading a written sheet gives its tables and schedule back
+-- THEOREM: reading what the writer left gives the sheet back, without its surplus
 pub read-back : (s : Sheet) (out₀ : List ℕ) (k : ℕ) (out : List ℕ) → Writes s out₀ (wrote.Done k) out → sheetIn (take k out) ≡ got (exact s) k
 read-back s out₀ k out e =
     let w = done-written s out₀ k out e in

@@ -10,6 +10,7 @@ pub record State : Type 0 where
   pub next : ℕ
   pub out : List ℕ
 
+-- the place and the list in one
 abbrev pub state : ℕ → List ℕ → State
 state next out = record { next = next; out = out }
 

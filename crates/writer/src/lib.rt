@@ -6,7 +6,7 @@ ghost use mathlib.Core.List.{[], _∷_};
 ghost use Prim.Native.Nat.{_+_, _-_, _*_, _/_, _%_, _≤_};
 ghost use lib.ListN.{length, take, drop};
 ghost use Rattle.tables.specs.Sheets.{sheet, refusal};
-ghost use Rattle.sheet.specs.Written.{cell, windowsOf, records, modeNumbers, modesNumbers, sheetNumbers};
+ghost use Rattle.sheet.specs.Written.{cell, placedOf, records, modeNumbers, modesNumbers, sheetNumbers};
 ghost use Rattle.writer.specs.Answers.{Writes};
 ghost use Rattle.writer.specs.Steps.{state, run};
 
@@ -15,9 +15,6 @@ pub enum Written {
     Done { length: usize },
     Refused { number: u8 },
 }
-
-// "format number 1".
-const FORMAT: usize = 1;
 
 // Writes a number from a place on, as far as there is room, and gives the place after it.
 fn write_number(out: &mut [u8], at: usize, value: usize) -> usize
@@ -46,10 +43,11 @@ fn write_cell(out: &mut [u8], at: usize, n: usize, place: usize, value: i32) -> 
     if tables::is_absent(value) {
         return at;
     }
-    write_window(out, at, n, place, wide(numbers::encode(value)))
+    write_window(out, at, n, place, number_of(numbers::encode(value)))
 }
 
-fn wide(code: u32) -> usize
+// A limit's code as a number of the file.
+fn number_of(code: u32) -> usize
     ensures { λ r. ⌜ r ≡ code ⌝ }
 {
     code as usize
@@ -58,7 +56,7 @@ fn wide(code: u32) -> usize
 // How many of a part's first places say a window.
 fn count_windows(part: &[i32], size: usize) -> usize
     requires { ⌜ size ≤ length (now part) ⌝ }
-    ensures { λ r. ⌜ r ≡ length (windowsOf 0 (take size (now (part .entry)))) ⌝ }
+    ensures { λ r. ⌜ r ≡ length (placedOf 0 (take size (now (part .entry)))) ⌝ }
 {
     let mut count: usize = 0;
     let mut k: usize = 0;
@@ -81,7 +79,7 @@ fn write_places(
     part: &[i32],
 ) -> usize
     requires { ⌜ (1 ≤ n) × (n ≤ 12) × (start ≤ end) × (end ≤ 576) × (end ≤ length (now part)) × (at ≤ 400000) ⌝ }
-    ensures { λ r. ⌜ state r (now (out .exit)) ≡ run (now (out .entry)) at (records n (windowsOf start (take (end - start) (drop start (now (part .entry)))))) ⌝ }
+    ensures { λ r. ⌜ state r (now (out .exit)) ≡ run (now (out .entry)) at (records n (placedOf start (take (end - start) (drop start (now (part .entry)))))) ⌝ }
 {
     let mut p = at;
     let mut k = start;
@@ -95,7 +93,7 @@ fn write_places(
 // Writes the records of one mode, kind after kind.
 fn write_windows(out: &mut [u8], at: usize, n: usize, part: &[i32]) -> usize
     requires { ⌜ (1 ≤ n) × (n ≤ 12) × (4 * (n * n) ≤ length (now part)) × (at ≤ 200000) ⌝ }
-    ensures { λ r. ⌜ state r (now (out .exit)) ≡ run (now (out .entry)) at (records n (windowsOf 0 (take (4 * (n * n)) (now (part .entry))))) ⌝ }
+    ensures { λ r. ⌜ state r (now (out .exit)) ≡ run (now (out .entry)) at (records n (placedOf 0 (take (4 * (n * n)) (now (part .entry))))) ⌝ }
 {
     let square = n * n;
     let mut p = at;
@@ -142,16 +140,10 @@ fn write_schedule(out: &mut [u8], at: usize, positions: usize, schedule: &[u8]) 
     let mut p = at;
     let mut h: usize = 0;
     while h < positions {
-        p = write_number(out, p, mode_of(schedule[h]));
+        p = write_number(out, p, numbers::wide(schedule[h]));
         h += 1;
     }
     p
-}
-
-fn mode_of(byte: u8) -> usize
-    ensures { λ r. ⌜ r ≡ byte ⌝ }
-{
-    byte as usize
 }
 
 // Writes n, m, V and all that follows them, as far as there is room, and gives the sheet's length.
@@ -166,7 +158,7 @@ fn write_all(
     requires { ⌜ refusal (sheet n m positions (now tables) (now schedule)) ≡ 0 ⌝ }
     ensures { λ r. ⌜ state r (now (out .exit)) ≡ run (now (out .entry)) 0 (sheetNumbers (sheet n m positions (now (tables .entry)) (now (schedule .entry)))) ⌝ }
 {
-    let a = write_number(out, 0, FORMAT);
+    let a = write_number(out, 0, sheet::FORMAT);
     let b = write_number(out, a, n);
     let c = write_number(out, b, m);
     let d = write_number(out, c, positions);

@@ -4,31 +4,24 @@ use borrow.Author.Needs.{needs}
 use Rattle.answers.proofs.of_asked.Statement.{statement}
 use Rattle.answers.proofs.of_asked.Tie as tie
 
--- src/lib.rt:82:27
 enum-known-asked : tie.Need-enum-known-asked
 enum-known-asked c = search needs
 
--- src/lib.rt:87:26
 enum-known-asked-2 : tie.Need-enum-known-asked-2
 enum-known-asked-2 c = search needs
 
--- src/lib.rt:92:26
 enum-known-asked-3 : tie.Need-enum-known-asked-3
 enum-known-asked-3 c = search needs
 
--- src/lib.rt:93:21
 answer-requires : tie.Need-answer-requires
 answer-requires c κs = search needs
 
--- src/lib.rt:78:1
 returns : tie.Need-returns
 returns c = accepted-given _ _ (c .before .asked .given .1)
 
--- src/lib.rt:78:1
 returns-2 : tie.Need-returns-2
 returns-2 c = refuted-given _ _ (c .before .asked2 .given .1)
 
--- src/lib.rt:78:1
 returns-3 : tie.Need-returns-3
 returns-3 c = search needs
 

@@ -4,43 +4,33 @@ use borrow.Author.Needs.{needs}
 use Rattle.answers.proofs.of_ended.Statement.{statement}
 use Rattle.answers.proofs.of_ended.Tie as tie
 
--- src/lib.rt:121:24
 enum-known-ended : tie.Need-enum-known-ended
 enum-known-ended c = search needs
 
--- src/lib.rt:121:62
 of-found-requires : tie.Need-of-found-requires
 of-found-requires c κs = search needs
 
--- src/lib.rt:122:23
 enum-known-ended-2 : tie.Need-enum-known-ended-2
 enum-known-ended-2 c = search needs
 
--- src/lib.rt:125:22
-wide-requires : tie.Need-wide-requires
-wide-requires c κs = search needs
+as-value-requires : tie.Need-as-value-requires
+as-value-requires c κs = search needs
 
--- src/lib.rt:125:35
-wide-requires-2 : tie.Need-wide-requires-2
-wide-requires-2 c κs = search needs
+as-value-requires-2 : tie.Need-as-value-requires-2
+as-value-requires-2 c κs = search needs
 
--- src/lib.rt:127:26
 enum-known-ended-3 : tie.Need-enum-known-ended-3
 enum-known-ended-3 c = search needs
 
--- src/lib.rt:128:21
 answer-requires : tie.Need-answer-requires
 answer-requires c κs = search needs
 
--- src/lib.rt:117:1
 returns : tie.Need-returns
 returns c = found-given _ _ _ _ _ _ (c .of-found .result) (c .before .before .ended .given .1) (c .of-found .ensures)
 
--- src/lib.rt:117:1
 returns-2 : tie.Need-returns-2
-returns-2 c = none-given _ _ _ _ _ (c .before .before .before .ended2 .given .1) (c .before .wide .ensures) (c .wide2 .ensures)
+returns-2 c = none-given _ _ _ _ _ (c .before .before .before .ended2 .given .1) (c .before .as-value .ensures) (c .as-value2 .ensures)
 
--- src/lib.rt:117:1
 returns-3 : tie.Need-returns-3
 returns-3 c = search needs
 
@@ -51,8 +41,8 @@ of-ended-spec =
     enum-known-ended
     of-found-requires
     enum-known-ended-2
-    wide-requires
-    wide-requires-2
+    as-value-requires
+    as-value-requires-2
     enum-known-ended-3
     answer-requires
     returns

@@ -7,8 +7,7 @@ use borrow.Author.Tests.{not-true, not-false}
 use Rattle.tables.specs.Sheets.{Sheet, sheet, refusal}
 use Rattle.tables.proofs.Laws.{accepted}
 use Rattle.windows.proofs.Limits.{nodes-few}
-use Rattle.calls.specs.Ask.{timed, askRefusal}
-use Rattle.ask.specs.Answers.{answer}
+use Rattle.calls.specs.Ask.{timed, askRefusal, refused}
 use Rattle.calls.proofs.Ask.Refusals.{refused-sheet, refused-10, refused-9, refused-none}
 use Rattle.ask.proofs.Deciding.{outcome}
 use borrow.Author.Needs.{needs}
@@ -37,24 +36,27 @@ judge-requires c κs = search needs
 
 returns : tie.Need-returns
 returns c = let s = c .before .before .before .before .before in
-    (refused-sheet (S s) (s .args .p) (s .args .q) (s .args .plan .now) (s .args .circuit .now) (c .before .judge .result) (c .before .judge .ensures) (c .if1 .taken), c .if1 .taken, refl, refl)
+    refused (c .before .judge .result) refl (refused-sheet (S s) (s .args .p) (s .args .q) (s .args .plan .now) (s .args .circuit .now) (c .before .judge .result) (c .before .judge .ensures) (c .if1 .taken)) (c .if1 .taken) refl refl
 
 is-timed-requires : tie.Need-is-timed-requires
 is-timed-requires c κs = search needs
 
 returns-2 : tie.Need-returns-2
 returns-2 c = let s = c .before .before .before .before .before .before .before in
-    (refused-10 (S s) (s .args .p) (s .args .q) (s .args .plan .now) (s .args .circuit .now) (clean (c .before .before)) (sym (c .before .is-timed .ensures) ∙ not-true _ (c .if2 .taken)), (λ e. omega arith), refl, refl)
+    refused 10 refl (refused-10 (S s) (s .args .p) (s .args .q) (s .args .plan .now) (s .args .circuit .now) (clean (c .before .before)) (sym (c .before .is-timed .ensures) ∙ not-true _ (c .if2 .taken))) (λ e. omega arith) refl refl
+
+mul-nodes : tie.Need-mul-nodes
+mul-nodes c = omega (arith, few (c .before .before))
 
 mul-is-roomy : tie.Need-mul-is-roomy
 mul-is-roomy c = omega (arith, few (c .before .before))
 
 is-roomy-requires : tie.Need-is-roomy-requires
-is-roomy-requires c κs = few (c .before .before)
+is-roomy-requires c κs = search needs
 
 returns-3 : tie.Need-returns-3
 returns-3 c = let s = c .before .before .before .before .before .before .before .before .before in
-    (refused-9 (S s) (s .args .p) (s .args .q) (s .args .plan .now) (s .args .circuit .now) (clean (c .before .before .before .before)) (in-time (c .before .before)) (sym (c .before .is-roomy .ensures) ∙ not-true _ (c .if3 .taken)), (λ e. omega arith), refl, refl)
+    refused 9 refl (refused-9 (S s) (s .args .p) (s .args .q) (s .args .plan .now) (s .args .circuit .now) (clean (c .before .before .before .before)) (in-time (c .before .before)) (sym (c .before .is-roomy .ensures) ∙ not-true _ (c .if3 .taken))) (λ e. omega arith) refl refl
 
 decide-requires : tie.Need-decide-requires
 decide-requires c κs = none (c .before .before)
@@ -67,7 +69,7 @@ same-length-2 c = search needs
 
 returns-4 : tie.Need-returns-4
 returns-4 c = let d = c .before .before .before .before in let e = d .before .before .before in let s = e .before .before .before .before .before .before .before .before .before in let a = s .args in
-    outcome (S s) (a .p) (a .q) (a .plan .now) (a .circuit .now) (none e) (answer (d .decide .result)) (d .decide .last .1 .1 .1 .1 .1 .1 .1 .0) (d .decide .last .1 .1 .1 .1 .1 .1 .1 .1 .0) (d .decide .ensures)
+    outcome (S s) (a .p) (a .q) (a .plan .now) (a .circuit .now) (none e) (d .decide .result) (d .decide .last .1 .1 .1 .1 .1 .1 .1 .0) (d .decide .last .1 .1 .1 .1 .1 .1 .1 .1 .0) (d .decide .ensures)
 
 pub ask-spec : {M : Type 1} → statement M
 ask-spec =
@@ -77,6 +79,7 @@ ask-spec =
     returns
     is-timed-requires
     returns-2
+    mul-nodes
     mul-is-roomy
     is-roomy-requires
     returns-3

@@ -3,14 +3,12 @@ use mathlib.Core.Path.{_∙_}
 use native.Mathlib.Omega.{arith}
 use Rattle.tables.specs.Sheets.{Sheet, sheet}
 use Rattle.windows.proofs.Limits.{nodes-few}
-use Rattle.layout.specs.Records.{Modes}
-use Rattle.layout.proofs.Laying.{modes}
+use Rattle.layout.proofs.Laying.{Modes, modes}
 use Rattle.turns.specs.Rounds.{Posed}
 use Rattle.turns.proofs.Sheets.{parts}
-use Rattle.ask.specs.Answers.{answer}
 use Rattle.calls.proofs.Ask.Refusals.{Granted, granted}
 use Rattle.ask.proofs.Posing.{limits}
-use Rattle.ask.proofs.Deciding.{ends, settles}
+use Rattle.ask.proofs.Deciding.{leads, settles}
 use borrow.Author.Needs.{needs}
 use Rattle.ask.proofs.solve.Statement.{statement}
 use Rattle.ask.proofs.solve.Tie as tie
@@ -52,7 +50,7 @@ run-requires c κs = let o = c .before in let s = P o in (
 
 finish-requires : tie.Need-finish-requires
 finish-requires c κs = let r = c .before .before .before .before .before in let o = r .before .before in let s = P o in let a = s .args in let g = G s in (
-  ends (S s) (g .sheet-ok) (a .p) (a .q) (o .before .lay-out .result) (o .starts .result) (laid o) (r .run .result .rounds) (r .run .result .node) (r .run .result .times) (r .run .last .1 .1 .1 .0) (r .run .ensures) (r .run .kept .1 .1 .1 .0 ∙ s .pre .1),
+  leads (S s) (g .sheet-ok) (a .p) (a .q) (o .before .lay-out .result) (o .starts .result) (laid o) (r .run .result .rounds) (r .run .result .node) (r .run .result .times) (r .run .last .1 .1 .1 .0) (r .run .ensures) (r .run .kept .1 .1 .1 .0 ∙ s .pre .1),
   nodes-few (S s) (g .sheet-ok),
   g .plan-long,
   omega (arith, g .circuit-long),
@@ -70,7 +68,7 @@ same-length-3 c = search needs
 returns : tie.Need-returns
 returns c = let f = c .before .before .before .before in let r = f .before .before .before .before .before .before in let o = r .before .before in let s = P o in let a = s .args in let g = G s in
     settles (S s) (g .sheet-ok) (a .p) (a .q) (o .before .lay-out .result) (o .starts .result) (laid o) (r .run .result .rounds) (r .run .result .node) (r .run .result .times) (r .run .last .1 .1 .1 .0) (r .run .ensures)
-    (a .plan .now) (a .circuit .now) (omega (arith, g .circuit-long)) (answer (f .finish .result)) (f .finish .last .1 .1 .1 .1 .1 .0) (f .finish .last .1 .1 .1 .1 .1 .1 .0) (f .finish .ensures)
+    (a .plan .now) (a .circuit .now) (omega (arith, g .circuit-long)) (f .finish .result) (f .finish .last .1 .1 .1 .1 .1 .0) (f .finish .last .1 .1 .1 .1 .1 .1 .0) (f .finish .ensures)
 
 pub solve-spec : {M : Type 1} → statement M
 solve-spec =

@@ -10,7 +10,7 @@ use Rattle.theory.proofs.Loops.{rounds-few}
 use Rattle.theory.proofs.Rounds.{table-bound}
 use Rattle.theory.proofs.Sums.{rise-bound}
 use Rattle.tables.specs.Sheets.{Sheet}
-use Rattle.tables.proofs.Laws.{Admitted}
+use Rattle.tables.specs.Admitted.{Admitted}
 use Rattle.windows.specs.Arcs.{nodes, arcs}
 use Rattle.windows.proofs.Laying.{arcs-within}
 use Rattle.windows.proofs.Limits.{sheet-laid, nodes-few}

@@ -8,9 +8,10 @@ use native.Mathlib.Omega.{arith}
 use borrow.Author.Tests.{leb-true}
 use lib.Dec.{leb}
 use lib.ListN.{length}
-use Rattle.tables.specs.Sheets.{Sheet, within, unless, refusal}
-use Rattle.tables.proofs.Refusing.{unless-none, otherwise-none, otherwise-first}
-use Rattle.tables.proofs.Laws.{both, within-is, Admitted, accepted}
+use Rattle.tables.specs.Sheets.{Sheet, within, unless, sized, scheduled, admitted, refusal}
+use Rattle.tables.proofs.Refusing.{unless-none, unless-few, otherwise-none, otherwise-few, otherwise-first}
+use Rattle.tables.specs.Admitted.{Admitted}
+use Rattle.tables.proofs.Laws.{both, within-is, accepted}
 use Rattle.windows.specs.Arcs.{nodes}
 use Rattle.calls.specs.Ask.{timed, roomy, askRefusal}
 
@@ -48,3 +49,11 @@ module _ (s : Sheet) (p q : ℕ) (plan circuit : List ℕ) where
 
   pub refused-none : 0 ≡ refusal s → timed p q ≡ true → roomy s plan circuit ≡ true → askRefusal s p q plan circuit ≡ 0
   refused-none e t r = rw (← e, t, r)
+
+  -- THEOREM: a refusal's number is at most 10, and so neither 100 nor 101
+  pub refused-few : askRefusal s p q plan circuit ≤ 10
+  unfolding refusal
+  refused-few =
+      otherwise-few (refusal s) (unless (timed p q) 10 (unless (roomy s plan circuit) 9 0)) 10
+      (unless-few (sized s) 4 _ 10 (omega arith) (unless-few (scheduled s) 5 _ 10 (omega arith) (unless-few (admitted s) 6 0 10 (omega arith) (omega arith))))
+      (unless-few (timed p q) 10 _ 10 (omega arith) (unless-few (roomy s plan circuit) 9 0 10 (omega arith) (omega arith)))

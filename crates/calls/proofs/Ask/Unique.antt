@@ -1,7 +1,7 @@
--- Two outcomes of Ask are equal, but for which circuit is given.
+-- Two outcomes of Ask are equal, but for which circuit is given; with the same circuit they are equal in full.
 use mathlib.Core.Path.{_≡_, refl, sym, ap, _∙_}
-use mathlib.Core.Logic.{_≢_}
-use mathlib.Core.List.{List}
+use mathlib.Core.Logic.{_≢_, _⊎_, inl, inr}
+use mathlib.Core.List.{List, [], _∷_}
 use Prim.Native.Nat.{ℕ, suc, _+_, _-_, _*_, _/_, _%_, _≤_, _<_}
 use native.Mathlib.Omega.{arith}
 use native.Mathlib.Nat.{mod-lt, mod-eq-of-lt, div-add-mod', div-lt-iff-lt-mul, div-eq-of-lt}
@@ -13,15 +13,20 @@ use Rattle.theory.specs.Arcs.{Plan, table, Rounds}
 use Rattle.theory.proofs.Rounds.{table-least, still-plan}
 use Rattle.theory.proofs.Loops.{rounds-same}
 use Rattle.tables.specs.Sheets.{Sheet, refusal}
+use Rattle.tables.specs.Answers.{Answer, answer}
+use Rattle.tables.proofs.Answers.{number-same}
 use Rattle.tables.proofs.Refusing.{otherwise-none}
-use Rattle.tables.proofs.Laws.{Admitted, accepted}
+use Rattle.tables.specs.Admitted.{Admitted}
+use Rattle.tables.proofs.Laws.{accepted}
 use Rattle.windows.specs.Arcs.{node, nodes, arcs}
+use Rattle.windows.specs.Circuits.{Step}
 use Rattle.windows.proofs.Parts.{le-parts}
 use Rattle.windows.proofs.Endless.{onwards, plan-iff, plan-solves, onwards-from-zero}
 use Rattle.windows.proofs.Laying.{arcs-within}
 use Rattle.windows.proofs.Steps.{never-both}
+use Rattle.calls.specs.Circuits.{onto}
 use Rattle.calls.specs.Ask as ask
-use Rattle.calls.specs.Ask.{Answer, number, askRefusal, Earliest, Outcome}
+use Rattle.calls.specs.Ask.{askRefusal, planned, Earliest, Accepts, Shows, Outcome, given}
 
 -- every place below N is the node of an event at a position
 pub node-at : (s : Sheet) → 0 < s .n → (v : ℕ) → v < nodes s → (g e : ℕ) × (g < s .positions) × (e < s .n) × (node s (suc g) (suc e) ≡ v)
@@ -80,25 +85,61 @@ module _ (s : Sheet) (p q : ℕ) (plan₀ circuit₀ : List ℕ) where
   admitted : askRefusal s p q plan₀ circuit₀ ≡ 0 → Admitted s
   admitted e = accepted s (otherwise-none (refusal s) _ e .0)
 
-  -- THEOREM: two outcomes of Ask are equal: the number, the rounds, the plan's buffer and, unless it is a refutation, the circuit's buffer
-  pub outcome-same : (a b : Answer) (plan circuit plan′ circuit′ : List ℕ) → Outcome s p q plan₀ circuit₀ a plan circuit → Outcome s p q plan₀ circuit₀ b plan′ circuit′
-      → (number a ≡ number b) × (plan ≡ plan′) × (number a ≢ 100 → (a ≡ b) × (circuit ≡ circuit′))
-  outcome-same (ask.accepted r) (ask.accepted k) plan circuit plan′ circuit′ x y =
-      let z = admitted (x .0) .size in (
-        refl,
-        parts-same (nodes s) plan plan′ (x .1 .plan-length ∙ sym (y .1 .plan-length)) (plan-same s p q (z .some-positions) (z .some-events) plan plan′ (x .1 .plan-is) (y .1 .plan-is))
-            (x .1 .plan-rest ∙ sym (y .1 .plan-rest)),
-        λ n. (ap ask.accepted (rounds-same (arcs s) p q (nodes s) r k (x .1 .rounds-are) (y .1 .rounds-are)), x .1 .circuit-same ∙ sym (y .1 .circuit-same)),
+  clash : (plan circuit plan′ circuit′ : List ℕ) (r : ℕ) (steps : List Step) → Admitted s → Accepts s p q plan₀ circuit₀ r plan circuit → Shows s p q plan₀ circuit₀ steps plan′ circuit′ → ⊥
+  clash plan circuit plan′ circuit′ r steps ok x y = never-both s (ok .size .some-positions) p q (planned s p q plan) (x .plan-is .solves) steps (y .refutes)
+
+  -- an acceptance leaves one plan, with one count of rounds
+  accepts-same : Admitted s → (r k : ℕ) (plan circuit plan′ circuit′ : List ℕ) → Accepts s p q plan₀ circuit₀ r plan circuit → Accepts s p q plan₀ circuit₀ k plan′ circuit′
+      → (r ≡ k) × (plan ≡ plan′) × (circuit ≡ circuit′)
+  accepts-same ok r k plan circuit plan′ circuit′ x y =
+      let z = ok .size in (
+        rounds-same (arcs s) p q (nodes s) r k (x .rounds-are) (y .rounds-are),
+        parts-same (nodes s) plan plan′ (x .plan-length ∙ sym (y .plan-length)) (plan-same s p q (z .some-positions) (z .some-events) plan plan′ (x .plan-is) (y .plan-is))
+            (x .plan-rest ∙ sym (y .plan-rest)),
+        x .circuit-same ∙ sym (y .circuit-same),
       )
-  outcome-same (ask.accepted r) (ask.refuted k) plan circuit plan′ circuit′ x y =
-      absurd (never-both s (admitted (x .0) .size .some-positions) p q (ask.planned s p q plan) (x .1 .plan-is .solves) (y .1 .steps) (y .1 .refutes))
-  outcome-same (ask.accepted r) (ask.refused k) plan circuit plan′ circuit′ x y = absurd (y .1 (sym (y .0) ∙ x .0))
-  outcome-same (ask.refuted r) (ask.accepted k) plan circuit plan′ circuit′ x y =
-      absurd (never-both s (admitted (x .0) .size .some-positions) p q (ask.planned s p q plan′) (y .1 .plan-is .solves) (x .1 .steps) (x .1 .refutes))
-  outcome-same (ask.refuted r) (ask.refuted k) plan circuit plan′ circuit′ x y = (refl, x .1 .plan-same ∙ sym (y .1 .plan-same), λ n. absurd (n refl))
-  outcome-same (ask.refuted r) (ask.refused k) plan circuit plan′ circuit′ x y = absurd (y .1 (sym (y .0) ∙ x .0))
-  outcome-same (ask.refused r) (ask.accepted k) plan circuit plan′ circuit′ x y = absurd (x .1 (sym (x .0) ∙ y .0))
-  outcome-same (ask.refused r) (ask.refuted k) plan circuit plan′ circuit′ x y = absurd (x .1 (sym (x .0) ∙ y .0))
-  outcome-same (ask.refused r) (ask.refused k) plan circuit plan′ circuit′ x y =
-      let e : r ≡ k = sym (x .0) ∙ y .0 in
-      (e, x .2 ∙ sym (y .2), λ n. (ap ask.refused e, x .3 ∙ sym (y .3)))
+
+  -- THEOREM: two outcomes of Ask with the same circuit are equal: the answer, its number and all its values, and every place of both buffers
+  pub outcome-equal : (a b : Answer) (plan circuit plan′ circuit′ : List ℕ) (x : Outcome s p q plan₀ circuit₀ a plan circuit) (y : Outcome s p q plan₀ circuit₀ b plan′ circuit′) → given x ≡ given y
+      → (a ≡ b) × (plan ≡ plan′) × (circuit ≡ circuit′)
+  outcome-equal a b plan circuit plan′ circuit′ (ask.accepted r e none is) (ask.accepted k e′ none′ is′) same =
+      let z = accepts-same (admitted none) r k plan circuit plan′ circuit′ is is′ in
+      (e ∙ ap (λ (n : ℕ). answer 0 (n ∷ [])) (z .0) ∙ sym e′, z .1, z .2)
+  outcome-equal a b plan circuit plan′ circuit′ (ask.accepted r e none is) (ask.refuted steps e′ none′ is′) same = absurd (clash plan circuit plan′ circuit′ r steps (admitted none) is is′)
+  outcome-equal a b plan circuit plan′ circuit′ (ask.accepted r e none is) (ask.refused k e′ is′ some kept kept′) same = absurd (some (sym is′ ∙ none))
+  outcome-equal a b plan circuit plan′ circuit′ (ask.refuted steps e none is) (ask.accepted k e′ none′ is′) same = absurd (clash plan′ circuit′ plan circuit k steps (admitted none) is′ is)
+  outcome-equal a b plan circuit plan′ circuit′ (ask.refuted steps e none is) (ask.refuted steps′ e′ none′ is′) same = (
+    let alike : steps ≡ steps′ = same in rw (e, e′, alike),
+    is .plan-same ∙ sym (is′ .plan-same),
+    is .circuit-is ∙ ap (λ (cs : List Step). onto cs circuit₀) same ∙ sym (is′ .circuit-is),
+  )
+  outcome-equal a b plan circuit plan′ circuit′ (ask.refuted steps e none is) (ask.refused k e′ is′ some kept kept′) same = absurd (some (sym is′ ∙ none))
+  outcome-equal a b plan circuit plan′ circuit′ (ask.refused k e is some kept kept′) (ask.accepted r e′ none is′) same = absurd (some (sym is ∙ none))
+  outcome-equal a b plan circuit plan′ circuit′ (ask.refused k e is some kept kept′) (ask.refuted steps e′ none is′) same = absurd (some (sym is ∙ none))
+  outcome-equal a b plan circuit plan′ circuit′ (ask.refused k e is some kept kept′) (ask.refused k′ e′ is′ some′ same-plan same-circuit) same =
+      (e ∙ ap (λ (n : ℕ). answer n []) (sym is ∙ is′) ∙ sym e′, kept ∙ sym same-plan, kept′ ∙ sym same-circuit)
+
+  -- two outcomes both refute, or neither gives a circuit
+  both : (a b : Answer) (plan circuit plan′ circuit′ : List ℕ) (x : Outcome s p q plan₀ circuit₀ a plan circuit) (y : Outcome s p q plan₀ circuit₀ b plan′ circuit′)
+      → ((a .number ≡ 100) × (b .number ≡ 100) × (plan ≡ plan′)) ⊎ (given x ≡ given y)
+  both a b plan circuit plan′ circuit′ (ask.accepted r e none is) (ask.accepted k e′ none′ is′) = inr refl
+  both a b plan circuit plan′ circuit′ (ask.accepted r e none is) (ask.refuted steps e′ none′ is′) = absurd (clash plan circuit plan′ circuit′ r steps (admitted none) is is′)
+  both a b plan circuit plan′ circuit′ (ask.accepted r e none is) (ask.refused k e′ is′ some kept kept′) = inr refl
+  both a b plan circuit plan′ circuit′ (ask.refuted steps e none is) (ask.accepted k e′ none′ is′) = absurd (clash plan′ circuit′ plan circuit k steps (admitted none) is′ is)
+  both a b plan circuit plan′ circuit′ (ask.refuted steps e none is) (ask.refuted steps′ e′ none′ is′) =
+      inl (number-same e, number-same e′, is .plan-same ∙ sym (is′ .plan-same))
+  both a b plan circuit plan′ circuit′ (ask.refuted steps e none is) (ask.refused k e′ is′ some kept kept′) = absurd (some (sym is′ ∙ none))
+  both a b plan circuit plan′ circuit′ (ask.refused k e is some kept kept′) (ask.accepted r e′ none is′) = inr refl
+  both a b plan circuit plan′ circuit′ (ask.refused k e is some kept kept′) (ask.refuted steps e′ none is′) = absurd (some (sym is ∙ none))
+  both a b plan circuit plan′ circuit′ (ask.refused k e is some kept kept′) (ask.refused k′ e′ is′ some′ same-plan same-circuit) = inr refl
+
+  -- THEOREM: two outcomes of Ask are equal: the number, the plan's buffer and, unless it is a refutation, all values and the circuit's buffer
+  pub outcome-same : (a b : Answer) (plan circuit plan′ circuit′ : List ℕ) → Outcome s p q plan₀ circuit₀ a plan circuit → Outcome s p q plan₀ circuit₀ b plan′ circuit′
+      → (a .number ≡ b .number) × (plan ≡ plan′) × (a .number ≢ 100 → (a ≡ b) × (circuit ≡ circuit′))
+  outcome-same a b plan circuit plan′ circuit′ x y =
+      elim (both a b plan circuit plan′ circuit′ x y) [
+        | inl refutes ↦ (refutes .0 ∙ sym (refutes .1), refutes .2, λ other. absurd (other (refutes .0)))
+        | inr same ↦
+            let z = outcome-equal a b plan circuit plan′ circuit′ x y same in
+            (number-same (z .0), z .1, λ other. (z .0, z .2))
+      ]

@@ -6,7 +6,7 @@ use Rattle.theory.specs.Arcs.{Arc, Works}
 use Rattle.theory.specs.Ends.{High, Range, Never, LowShown, HighShown, NoneShown}
 use Rattle.theory.proofs.Found.{found, none-never}
 use Rattle.tables.specs.Sheets.{Sheet}
-use Rattle.tables.proofs.Laws.{Admitted}
+use Rattle.tables.specs.Admitted.{Admitted}
 use Rattle.windows.specs.Arcs.{nodes, arcs}
 use Rattle.windows.proofs.Endless.{meaning}
 use Rattle.windows.proofs.Limits.{sheet-laid}

@@ -1,42 +1,32 @@
--- Two outcomes of Ends are equal, but for which circuits, and which of the two forms of "none", are given.
+-- Two outcomes of Ends are equal, but for which circuits, and which of the two forms of "none", are given; with the same circuits they are equal in full.
 use mathlib.Core.Path.{_≡_, refl, sym, ap, _∙_}
-use mathlib.Core.List.{List, [], _∷_, _++_}
-use Prim.Native.Nat.{ℕ, _*_}
+use mathlib.Core.Logic.{_≢_}
+use mathlib.Core.List.{List, [], _∷_, _++_, map}
+use Prim.Native.Nat.{ℕ}
 use native.Mathlib.Omega.{arith}
-use lib.ListN.{length, drop, length-map}
+use lib.ListN.{length}
 use Rattle.theory.specs.Arcs.{Arc}
-use Rattle.theory.specs.Ends.{High, open-end, Range, Never, LowShown, at-zero, above-zero, HighShown, no-limit, limit}
+use Rattle.theory.specs.Ends.{High, open-end, up-to, Range, Never, LowShown, at-zero, above-zero, HighShown, no-limit, limit}
 use Rattle.theory.proofs.Fractions.{range-same, low-works}
 use Rattle.tables.specs.Sheets.{Sheet}
+use Rattle.tables.specs.Answers.{Answer, answer}
+use Rattle.tables.proofs.Answers.{number-same}
 use Rattle.windows.specs.Inequalities.{Runs}
-use Rattle.windows.specs.Circuits.{Step, numbers, stepArc}
-use Rattle.calls.specs.Ends.{Answer, found, none, refused, number, Holds, arcsIn, Outcome}
+use Rattle.windows.specs.Circuits.{Step, stepArc}
+use Rattle.calls.specs.Circuits.{onto}
+use Rattle.calls.proofs.Ends.Cases.{foundAnswer, found-is}
+use Rattle.calls.specs.Ends.{endsValues, Outcome, found, none, refused, givenFirst, givenSecond, butCounts, Agree}
 
--- The two answers agree: the same number, and the same ends or the same refusal. Which circuits, and so their arc counts, is left open.
-abbrev pub Agree : Answer → Answer → Type 0
-Agree (found top bottom high first second) (found top′ bottom′ high′ first′ second′) = (top ≡ top′) × (bottom ≡ bottom′) × (high ≡ high′)
-Agree (found top bottom high first second) (none first′ second′) = ⊥
-Agree (found top bottom high first second) (refused k) = ⊥
-Agree (none first second) (found top′ bottom′ high′ first′ second′) = ⊥
-Agree (none first second) (none first′ second′) = Unit {0}
-Agree (none first second) (refused k) = ⊥
-Agree (refused k) (found top′ bottom′ high′ first′ second′) = ⊥
-Agree (refused k) (none first′ second′) = ⊥
-Agree (refused k) (refused k′) = k ≡ k′
+-- the ends alone
+but-counts : (top bottom : ℕ) (high : High) (count₁ count₂ : ℕ) → butCounts (foundAnswer top bottom high count₁ count₂) ≡ endsValues top bottom high
+but-counts top bottom open-end count₁ count₂ = refl
+but-counts top bottom (up-to c d) count₁ count₂ = refl
 
--- so the number is the same
-agree-number : (a b : Answer) → Agree a b → number a ≡ number b
-agree-number (found top bottom high first second) (found top′ bottom′ high′ first′ second′) e = refl
-agree-number (none first second) (none first′ second′) e = refl
-agree-number (refused k) (refused k′) e = e
+same-ends : (t b t′ b′ : ℕ) (h h′ : High) → t ≡ t′ → b ≡ b′ → h ≡ h′ → endsValues t b h ≡ endsValues t′ b′ h′
+same-ends t b t′ b′ h h′ x y z = rw (x, y, z)
 
--- no arcs: nothing is counted and nothing written
-held-none : (s : Sheet) (before : List ℕ) (count : ℕ) (after : List ℕ) (h : Holds s before count after) → arcsIn s h ≡ [] → (count ≡ 0) × (after ≡ before)
-held-none s before count after h e = go (h .steps) (h .counted) (h .written) (omega (arith, ap length e, length-map (h .steps) (stepArc s)))
-  where
-    go : (steps : List Step) → length steps ≡ count → after ≡ numbers steps ++ drop (4 * count) before → length steps ≡ 0 → (count ≡ 0) × (after ≡ before)
-    go [] c w z = (sym c, w ∙ ap (λ (k : ℕ). drop (4 * k) before) (sym c))
-    go (a ∷ steps) c w z = absurd (omega arith)
+same-found : (t b t′ b′ : ℕ) (h h′ : High) (c d c′ d′ : ℕ) → t ≡ t′ → b ≡ b′ → h ≡ h′ → c ≡ c′ → d ≡ d′ → foundAnswer t b h c d ≡ foundAnswer t′ b′ h′ c′ d′
+same-found t b t′ b′ h h′ c d c′ d′ x y z u v = rw (x, y, z, u, v)
 
 low-none : {arcs : List Arc} {b a : ℕ} {c : List Arc} → LowShown arcs b a c → a ≡ 0 → c ≡ []
 low-none at-zero e = refl
@@ -46,33 +36,81 @@ high-none : {arcs : List Arc} {h : High} {c : List Arc} → HighShown arcs h c �
 high-none no-limit e = refl
 high-none (limit ring climbs level) e = let z : _≡_ {A = ℕ} 0 1 = cc in absurd (omega arith)
 
-module _ (s : Sheet) (first₀ second₀ : List ℕ) where
+module _ (s : Sheet) where
   clash : (top bottom : ℕ) (high : High) → Range (Runs s) top bottom high → Never (Runs s) → ⊥
   clash top bottom high range never = never top bottom (range .bottom) (low-works (Runs s) top bottom high range)
 
-  -- THEOREM: two outcomes of Ends agree
+module _ (s : Sheet) (first₀ second₀ : List ℕ) where
+  agrees : (a b c d : Answer) → a ≡ c → b ≡ d → Agree c d → Agree a b
+  agrees a b c d e f g = rw (e, f) g
+
+  -- THEOREM: two outcomes of Ends agree: the same number, and the same ends or the same refusal
   pub outcome-same : (a b : Answer) (first second first′ second′ : List ℕ) → Outcome s first₀ second₀ a first second → Outcome s first₀ second₀ b first′ second′ → Agree a b
-  outcome-same (found t b h c d) (found t′ b′ h′ c′ d′) first second first′ second′ x y = range-same (Runs s) t b t′ b′ h h′ (x .1 .range) (y .1 .range)
-  outcome-same (found t b h c d) (none c′ d′) first second first′ second′ x y = clash t b h (x .1 .range) (y .1 .never)
-  outcome-same (found t b h c d) (refused k) first second first′ second′ x y = y .1 (sym (y .0) ∙ x .0)
-  outcome-same (none c d) (found t′ b′ h′ c′ d′) first second first′ second′ x y = clash t′ b′ h′ (y .1 .range) (x .1 .never)
-  outcome-same (none c d) (none c′ d′) first second first′ second′ x y = tt
-  outcome-same (none c d) (refused k) first second first′ second′ x y = y .1 (sym (y .0) ∙ x .0)
-  outcome-same (refused k) (found t′ b′ h′ c′ d′) first second first′ second′ x y = x .1 (sym (x .0) ∙ y .0)
-  outcome-same (refused k) (none c′ d′) first second first′ second′ x y = x .1 (sym (x .0) ∙ y .0)
-  outcome-same (refused k) (refused k′) first second first′ second′ x y = sym (x .0) ∙ y .0
+  outcome-same a b first second first′ second′ (found t u h cs ds e unrefused is same more) (found t′ u′ h′ cs′ ds′ e′ unrefused′ is′ same′ more′) =
+      let r = range-same (Runs s) t u t′ u′ h h′ (is .range) (is′ .range) in
+      agrees a b _ _ e e′ (refl, but-counts t u h (length cs) (length ds) ∙ same-ends t u t′ u′ h h′ (r .0) (r .1) (r .2) ∙ sym (but-counts t′ u′ h′ (length cs′) (length ds′)))
+  outcome-same a b first second first′ second′ (found t u h cs ds e unrefused is same more) (none cs′ ds′ e′ unrefused′ is′ same′ more′) = absurd (clash s t u h (is .range) (is′ .never))
+  outcome-same a b first second first′ second′ (found t u h cs ds e unrefused is same more) (refused k e′ is′ some same′ more′) = absurd (some (sym is′ ∙ unrefused))
+  outcome-same a b first second first′ second′ (none cs ds e unrefused is same more) (found t′ u′ h′ cs′ ds′ e′ unrefused′ is′ same′ more′) = absurd (clash s t′ u′ h′ (is′ .range) (is .never))
+  outcome-same a b first second first′ second′ (none cs ds e unrefused is same more) (none cs′ ds′ e′ unrefused′ is′ same′ more′) = agrees a b _ _ e e′ (refl, refl)
+  outcome-same a b first second first′ second′ (none cs ds e unrefused is same more) (refused k e′ is′ some same′ more′) = absurd (some (sym is′ ∙ unrefused))
+  outcome-same a b first second first′ second′ (refused k e is some same more) (found t′ u′ h′ cs′ ds′ e′ unrefused′ is′ same′ more′) = absurd (some (sym is ∙ unrefused′))
+  outcome-same a b first second first′ second′ (refused k e is some same more) (none cs′ ds′ e′ unrefused′ is′ same′ more′) = absurd (some (sym is ∙ unrefused′))
+  outcome-same a b first second first′ second′ (refused k e is some same more) (refused k′ e′ is′ some′ same′ more′) = agrees a b _ _ e e′ (sym is ∙ is′, refl)
 
-  -- THEOREM: two refusals leave the same buffers, which are those lent
-  pub refused-same : (k k′ : ℕ) (first second first′ second′ : List ℕ) → Outcome s first₀ second₀ (refused k) first second → Outcome s first₀ second₀ (refused k′) first′ second′ → (first ≡ first′) × (second ≡ second′)
-  refused-same k k′ first second first′ second′ x y = (x .2 ∙ sym (y .2), x .3 ∙ sym (y .3))
+  -- THEOREM: two outcomes of Ends with the same circuits are equal: the answer, its number and all its values, and every place of both buffers
+  pub outcome-equal : (a b : Answer) (first second first′ second′ : List ℕ) (x : Outcome s first₀ second₀ a first second) (y : Outcome s first₀ second₀ b first′ second′)
+      → givenFirst x ≡ givenFirst y → givenSecond x ≡ givenSecond y → (a ≡ b) × (first ≡ first′) × (second ≡ second′)
+  outcome-equal a b first second first′ second′ (found t u h cs ds e unrefused is same more) (found t′ u′ h′ cs′ ds′ e′ unrefused′ is′ same′ more′) c d =
+      let r = range-same (Runs s) t u t′ u′ h h′ (is .range) (is′ .range) in (
+        e ∙ same-found t u t′ u′ h h′ (length cs) (length ds) (length cs′) (length ds′) (r .0) (r .1) (r .2) (ap length c) (ap length d) ∙ sym e′,
+        same ∙ ap (λ (l : List Step). onto l first₀) c ∙ sym same′,
+        more ∙ ap (λ (l : List Step). onto l second₀) d ∙ sym more′,
+      )
+  outcome-equal a b first second first′ second′ (found t u h cs ds e unrefused is same more) (none cs′ ds′ e′ unrefused′ is′ same′ more′) c d = absurd (clash s t u h (is .range) (is′ .never))
+  outcome-equal a b first second first′ second′ (found t u h cs ds e unrefused is same more) (refused k e′ is′ some same′ more′) c d = absurd (some (sym is′ ∙ unrefused))
+  outcome-equal a b first second first′ second′ (none cs ds e unrefused is same more) (found t′ u′ h′ cs′ ds′ e′ unrefused′ is′ same′ more′) c d = absurd (clash s t′ u′ h′ (is′ .range) (is .never))
+  outcome-equal a b first second first′ second′ (none cs ds e unrefused is same more) (none cs′ ds′ e′ unrefused′ is′ same′ more′) c d = (
+    let one : cs ≡ cs′ = c in let two : ds ≡ ds′ = d in rw (e, e′, one, two),
+    same ∙ ap (λ (l : List Step). onto l first₀) c ∙ sym same′,
+    more ∙ ap (λ (l : List Step). onto l second₀) d ∙ sym more′,
+  )
+  outcome-equal a b first second first′ second′ (none cs ds e unrefused is same more) (refused k e′ is′ some same′ more′) c d = absurd (some (sym is′ ∙ unrefused))
+  outcome-equal a b first second first′ second′ (refused k e is some same more) (found t′ u′ h′ cs′ ds′ e′ unrefused′ is′ same′ more′) c d = absurd (some (sym is ∙ unrefused′))
+  outcome-equal a b first second first′ second′ (refused k e is some same more) (none cs′ ds′ e′ unrefused′ is′ same′ more′) c d = absurd (some (sym is ∙ unrefused′))
+  outcome-equal a b first second first′ second′ (refused k e is some same more) (refused k′ e′ is′ some′ same′ more′) c d =
+      (e ∙ ap (λ (n : ℕ). answer n []) (sym is ∙ is′) ∙ sym e′, same ∙ sym same′, more ∙ sym more′)
 
-  -- THEOREM: two outcomes of Ends have the same number
-  pub number-same : (a b : Answer) (first second first′ second′ : List ℕ) → Outcome s first₀ second₀ a first second → Outcome s first₀ second₀ b first′ second′ → number a ≡ number b
-  number-same a b first second first′ second′ x y = agree-number a b (outcome-same a b first second first′ second′ x y)
+  -- a number that is neither 0 nor 101 is a refusal's, which gives no circuit
+  refused-none : (a : Answer) (first second : List ℕ) (x : Outcome s first₀ second₀ a first second) → a .number ≢ 0 → a .number ≢ 101 → (givenFirst x ≡ []) × (givenSecond x ≡ [])
+  refused-none a first second (found t u h cs ds e unrefused is same more) not-0 not-101 = absurd (not-0 (number-same e))
+  refused-none a first second (none cs ds e unrefused is same more) not-0 not-101 = absurd (not-101 (number-same e))
+  refused-none a first second (refused k e is some same more) not-0 not-101 = (refl, refl)
 
-  -- THEOREM: where low is 0 there is no circuit of low, and where high is open none of high: the count is 0, and the buffer is as it was lent
-  pub no-low : (a b : ℕ) (h : High) (c d : ℕ) (first second : List ℕ) → Outcome s first₀ second₀ (found a b h c d) first second → a ≡ 0 → (c ≡ 0) × (first ≡ first₀)
-  no-low a b h c d first second x e = held-none s first₀ c first (x .1 .first-holds) (low-none (x .1 .low-shown) e)
+  -- THEOREM: so two refusals are equal, and leave the same buffers, which are those lent
+  pub refused-same : (a b : Answer) (first second first′ second′ : List ℕ) → Outcome s first₀ second₀ a first second → Outcome s first₀ second₀ b first′ second′ → a .number ≢ 0 → a .number ≢ 101
+      → (a ≡ b) × (first ≡ first′) × (second ≡ second′)
+  refused-same a b first second first′ second′ x y not-0 not-101 =
+      let n = outcome-same a b first second first′ second′ x y .0 in
+      let g = refused-none a first second x not-0 not-101 in
+      let h = refused-none b first′ second′ y (λ e. not-0 (n ∙ e)) (λ e. not-101 (n ∙ e)) in
+      outcome-equal a b first second first′ second′ x y (g .0 ∙ sym (h .0)) (g .1 ∙ sym (h .1))
 
-  pub no-high : (a b : ℕ) (h : High) (c d : ℕ) (first second : List ℕ) → Outcome s first₀ second₀ (found a b h c d) first second → h ≡ open-end → (d ≡ 0) × (second ≡ second₀)
-  no-high a b h c d first second x e = held-none s second₀ d second (x .1 .second-holds) (high-none (x .1 .high-shown) e)
+  -- no arcs: nothing is counted and nothing written
+  unwritten : (cs : List Step) (count : ℕ) (before after : List ℕ) → length cs ≡ count → after ≡ onto cs before → map (stepArc s) cs ≡ [] → (count ≡ 0) × (after ≡ before)
+  unwritten [] count before after counted is empty = (sym counted, is)
+  unwritten (c ∷ cs) count before after counted is empty = let z : _≡_ {A = ℕ} 0 1 = cc in absurd (omega arith)
+
+  -- THEOREM: where low is 0 there is no circuit of low: the count is 0, and the buffer is as it was lent
+  pub no-low : (bottom : ℕ) (high : High) (count₁ count₂ : ℕ) (first second : List ℕ) → Outcome s first₀ second₀ (answer 0 (endsValues 0 bottom high ++ count₁ ∷ count₂ ∷ [])) first second
+      → (count₁ ≡ 0) × (first ≡ first₀)
+  no-low bottom high count₁ count₂ first second x =
+      let g = found-is 0 bottom high count₁ count₂ x in
+      unwritten (g .cs) count₁ first₀ first (g .counted₁) (g .first-is) (low-none (g .shown .low-shown) refl)
+
+  -- THEOREM: and where high is open there is none of high
+  pub no-high : (top bottom count₁ count₂ : ℕ) (first second : List ℕ) → Outcome s first₀ second₀ (answer 0 (endsValues top bottom open-end ++ count₁ ∷ count₂ ∷ [])) first second
+      → (count₂ ≡ 0) × (second ≡ second₀)
+  no-high top bottom count₁ count₂ first second x =
+      let g = found-is top bottom open-end count₁ count₂ x in
+      unwritten (g .ds) count₂ second₀ second (g .counted₂) (g .second-is) (high-none (g .shown .high-shown) refl)

@@ -8,12 +8,15 @@ use Prim.Native.Nat.{ℕ}
 use native.Mathlib.Omega.{arith}
 use lib.ListN.{length}
 use Rattle.tables.specs.Sheets.{Sheet, refusal, unless}
-use Rattle.tables.proofs.Laws.{Admitted, accepted}
+use Rattle.tables.specs.Answers.{Answer}
+use Rattle.tables.proofs.Answers.{number-same}
+use Rattle.tables.specs.Admitted.{Admitted}
+use Rattle.tables.proofs.Laws.{accepted}
 use Rattle.sheet.specs.File.{Part, got, refused, sheetIn}
 use Rattle.windows.proofs.Steps.{never-both}
 use Rattle.calls.proofs.Ask.Room.{room}
 use Rattle.calls.specs.Ask as ask
-use Rattle.calls.specs.Ask.{Answer, Outcome, askRefusal, timed, number, planned}
+use Rattle.calls.specs.Ask.{Outcome, askRefusal, timed, planned}
 use Rattle.calls.specs.Host.{Answers, AnswersPart, Verdict}
 
 module _ (s : Sheet) (p q : ℕ) (plan₀ circuit₀ : List ℕ) (admitted : refusal s ≡ 0) where
@@ -23,16 +26,16 @@ module _ (s : Sheet) (p q : ℕ) (plan₀ circuit₀ : List ℕ) (admitted : ref
   refusals : length plan₀ ≡ 192 → length circuit₀ ≡ 768 → askRefusal s p q plan₀ circuit₀ ≡ unless (timed p q) 10 0
   refusals long wide = rw (admitted, room s admitted plan₀ circuit₀ long wide)
 
-  by-time : (t : Bool) (a : Answer) (plan circuit : List ℕ) → askRefusal s p q plan₀ circuit₀ ≡ unless t 10 0 → Outcome s p q plan₀ circuit₀ a plan circuit → Answers t s p q (number a)
-  by-time true (ask.accepted rounds) plan circuit e o = inl (refl, (planned s p q plan, o .1 .plan-is .solves))
-  by-time true (ask.refuted count) plan circuit e o = inr (refl, λ x. never-both s (ok .size .some-positions) p q (x .0) (x .1) (o .1 .steps) (o .1 .refutes))
-  by-time true (ask.refused k) plan circuit e o = absurd (o .1 (sym (o .0) ∙ e))
-  by-time false (ask.accepted rounds) plan circuit e o = absurd (omega (arith, e, o .0))
-  by-time false (ask.refuted count) plan circuit e o = absurd (omega (arith, e, o .0))
-  by-time false (ask.refused k) plan circuit e o = sym (o .0) ∙ e
+  by-time : (t : Bool) (a : Answer) (plan circuit : List ℕ) → askRefusal s p q plan₀ circuit₀ ≡ unless t 10 0 → Outcome s p q plan₀ circuit₀ a plan circuit → Answers t s p q (a .number)
+  by-time true a plan circuit e (ask.accepted rounds is none o) = inl (number-same is, (planned s p q plan, o .plan-is .solves))
+  by-time true a plan circuit e (ask.refuted steps is none o) = inr (number-same is, λ x. never-both s (ok .size .some-positions) p q (x .0) (x .1) steps (o .refutes))
+  by-time true a plan circuit e (ask.refused k is fits some same same′) = absurd (some (sym fits ∙ e))
+  by-time false a plan circuit e (ask.accepted rounds is none o) = absurd (omega (arith, e, none))
+  by-time false a plan circuit e (ask.refuted steps is none o) = absurd (omega (arith, e, none))
+  by-time false a plan circuit e (ask.refused k is fits some same same′) = number-same is ∙ sym fits ∙ e
 
   -- THEOREM: the number of Ask's answer is the verdict on a sheet that was read
-  pub answers : length plan₀ ≡ 192 → length circuit₀ ≡ 768 → (a : Answer) (plan circuit : List ℕ) → Outcome s p q plan₀ circuit₀ a plan circuit → Answers (timed p q) s p q (number a)
+  pub answers : length plan₀ ≡ 192 → length circuit₀ ≡ 768 → (a : Answer) (plan circuit : List ℕ) → Outcome s p q plan₀ circuit₀ a plan circuit → Answers (timed p q) s p q (a .number)
   answers long wide a plan circuit o = by-time (timed p q) a plan circuit (refusals long wide) o
 
 -- "1 to 8 first": a refused file has its own number, whatever p and q are

@@ -3,7 +3,7 @@ use Prim.Native.Nat.{ℕ, _+_, _-_, _*_, _<_}
 use mathlib.Core.Path.{_≡_, refl, ap, subst, sym, _∙_}
 use native.Mathlib.Omega.{arith}
 use lib.ListN.{length, getD, length-set}
-use Rattle.layout.specs.Records.{itemAt}
+use Rattle.layout.specs.Records.{listed}
 use Rattle.circuits.specs.Ways.{departureOf, leaves, Names, markAt}
 use Rattle.circuits.proofs.Backs.{Trail, start-in, trail-none, trail-here, trail-found, trail-more, Turn, turn}
 use borrow.Author.Needs.{needs}
@@ -34,7 +34,7 @@ wide c = c .loop .inv .1 ∙ length-set (P c .args .node .now) (P c .args .nodes
 -- the departure is that of the marked arc
 goes : (c : tie.After-departure Inv-loop μ-loop) → let l = c .before .before .before .before .before .before in let a = P l .args in c .departure .result ≡ leaves (a .t1) (a .n) (a .positions) (markAt (a .marks .now) (l .loop .r - 1) (l .loop .u))
 goes c = let l = c .before .before .before .before .before .before in let a = P l .args in let m = markAt (a .marks .now) (l .loop .r - 1) (l .loop .u) in
-    c .departure .ensures ∙ ap (λ (k : ℕ). departureOf (itemAt (a .t1) k) (a .n) (a .positions) m) (c .before .before .record-of .ensures .0)
+    c .departure .ensures ∙ ap (λ (k : ℕ). departureOf (listed (a .t1) k) (a .n) (a .positions) m) (c .before .before .record-of .ensures .0)
 
 -- it is a node
 left : (c : tie.After-departure Inv-loop μ-loop) → c .departure .result < P (c .before .before .before .before .before .before) .args .nodes
@@ -94,7 +94,7 @@ array-copy-out-departure c = c .record-of .ensures .1
 
 departure-requires : tie.Need-departure-requires Inv-loop μ-loop
 departure-requires c κs = let k = c .before in let b = k .before .before in let l = b .before .before in let a = P l .args in
-    subst (λ (i : ℕ). Names (itemAt (a .t1) i) (a .n) (a .positions) (markAt (a .marks .now) (l .loop .r - 1) (l .loop .u))) (sym (k .record-of .ensures .0)) (turned b .names)
+    subst (λ (i : ℕ). Names (listed (a .t1) i) (a .n) (a .positions) (markAt (a .marks .now) (l .loop .r - 1) (l .loop .u))) (sym (k .record-of .ensures .0)) (turned b .names)
 
 cast-node-2 : tie.Need-cast-node-2 Inv-loop μ-loop
 cast-node-2 c = let t = turned (c .before .before .before .before) in omega (arith, left c)

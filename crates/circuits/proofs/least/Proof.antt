@@ -4,14 +4,14 @@ use mathlib.Core.Path.{subst}
 use mathlib.Core.Logic.{⊎-elim}
 use native.Mathlib.Omega.{arith}
 use native.Mathlib.Nat.{le-antisymm}
-use Rattle.circuits.specs.Ways.{Least}
+use Rattle.circuits.specs.Ways.{LeastAt}
 use Rattle.circuits.proofs.Backs.{least-none, least-less, least-more}
 use borrow.Author.Needs.{needs}
 use Rattle.circuits.proofs.least.Statement.{statement}
 use Rattle.circuits.proofs.least.Tie as tie
 
 abbrev Inv-loop : tie.InvT-loop
-Inv-loop node low high p₀ k₀ p k = (k ≤ high) × Least node low k p
+Inv-loop node low high p₀ k₀ p k = (k ≤ high) × LeastAt node low k p
 
 abbrev μ-loop : tie.MeasureT-loop
 μ-loop node low high p₀ k₀ p k = high - k
@@ -44,7 +44,7 @@ loop-again c = let l = c .before .before .before .before in let a = l .before .a
 )
 
 returns : tie.Need-returns Inv-loop μ-loop
-returns c = let l = c .before in subst (λ (k : ℕ). Least (l .before .args .node .now) (l .before .args .low) k (l .loop .p)) (le-antisymm (l .loop .inv .0) (c .loop-test .left)) (l .loop .inv .1)
+returns c = let l = c .before in subst (λ (k : ℕ). LeastAt (l .before .args .node .now) (l .before .args .low) k (l .loop .p)) (le-antisymm (l .loop .inv .0) (c .loop-test .left)) (l .loop .inv .1)
 
 pub least-spec : {M : Type 1} → statement M
 least-spec =

@@ -3,7 +3,8 @@ use mathlib.Core.Path.{refl}
 use Prim.Native.Nat.{ℕ}
 use native.Mathlib.Omega.{arith}
 use lib.ListN.{length-replicate}
-use Rattle.circuits.proofs.Backs.{zero-at, found-shown}
+use Rattle.turns.proofs.Filling.{zero-at}
+use Rattle.circuits.proofs.Backs.{found-shown}
 use borrow.Author.Needs.{needs}
 use Rattle.circuits.proofs.refute.Statement.{statement}
 use Rattle.circuits.proofs.refute.Tie as tie

@@ -6,7 +6,7 @@ use native.Mathlib.Omega.{arith}
 use native.Mathlib.Nat.{le-antisymm}
 use lib.ListN.{length, getD}
 use lib.Seq.{sets}
-use Rattle.layout.specs.Records.{itemAt}
+use Rattle.layout.specs.Records.{listed}
 use Rattle.circuits.specs.Ways.{positionOf, Shown, quads, part}
 use Rattle.circuits.proofs.Writing.{write-none, write-more}
 use borrow.Author.Needs.{needs}
@@ -80,7 +80,7 @@ loop-again c = let r = c .before .before in let k = r .before .before .before in
       omega (arith, i .loop-test .taken),
       r .write-arc .kept .0 ∙ l .loop .inv .1,
       write-more (a .t1) (a .path .now) (a .a) (a .at) (a .circuit .now) (l .loop .j) (l .loop .circuit) (r .write-arc .last .0) (l .loop .inv .2)
-          (r .write-arc .ensures ∙ ap (λ (x : ℕ). let w = itemAt (a .t1) x in sets (l .loop .circuit) ((a .at + l .loop .j) * 4) (w .kind ∷ (positionOf m + 1) ∷ w .to ∷ w .from ∷ [])) (k .record-of .ensures .0)),
+          (r .write-arc .ensures ∙ ap (λ (x : ℕ). let w = listed (a .t1) x in sets (l .loop .circuit) ((a .at + l .loop .j) * 4) (w .kind ∷ (positionOf m + 1) ∷ w .to ∷ w .from ∷ [])) (k .record-of .ensures .0)),
     )
 
 same-length : tie.Need-same-length Inv-loop μ-loop

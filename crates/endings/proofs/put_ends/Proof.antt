@@ -5,39 +5,30 @@ use borrow.Author.Needs.{needs}
 use Rattle.endings.proofs.put_ends.Statement.{statement}
 use Rattle.endings.proofs.put_ends.Tie as tie
 
--- src/lib.rt:95:36
 slice-aggregate-put-word : tie.Need-slice-aggregate-put-word
 slice-aggregate-put-word c = search needs
 
--- src/lib.rt:95:9
 put-word-requires : tie.Need-put-word-requires
 put-word-requires c κs = search needs
 
--- src/lib.rt:96:9
 put-byte-requires : tie.Need-put-byte-requires
 put-byte-requires c κs = search needs
 
--- src/lib.rt:97:9
 put-fraction-requires : tie.Need-put-fraction-requires
 put-fraction-requires c κs = search needs
 
--- src/lib.rt:98:9
 put-byte-requires-2 : tie.Need-put-byte-requires-2
 put-byte-requires-2 c κs = search needs
 
--- src/lib.rt:99:9
 put-highest-requires : tie.Need-put-highest-requires
 put-highest-requires c κs = search needs
 
--- src/lib.rt:100:5
 put-byte-requires-3 : tie.Need-put-byte-requires-3
 put-byte-requires-3 c κs = search needs
 
--- src/lib.rt:92:1
 same-length : tie.Need-same-length
 same-length c = search needs
 
--- src/lib.rt:92:1
 returns : tie.Need-returns
 returns c =
     let a = c .before .before .before .before .before .before .before .before .before .before .before .before .before .before .before .before .before .before .before .before .before .before .put-word .ensures in

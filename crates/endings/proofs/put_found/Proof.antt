@@ -5,27 +5,21 @@ use borrow.Author.Needs.{needs}
 use Rattle.endings.proofs.put_found.Statement.{statement}
 use Rattle.endings.proofs.put_found.Tie as tie
 
--- src/lib.rt:176:9
 put-ends-requires : tie.Need-put-ends-requires
 put-ends-requires c κs = search needs
 
--- src/lib.rt:177:33
 slice-aggregate-put-circuit : tie.Need-slice-aggregate-put-circuit
 slice-aggregate-put-circuit c = search needs
 
--- src/lib.rt:177:9
 put-circuit-requires : tie.Need-put-circuit-requires
 put-circuit-requires c κs = search needs
 
--- src/lib.rt:178:5
 put-high-requires : tie.Need-put-high-requires
 put-high-requires c κs = search needs
 
--- src/lib.rt:163:1
 same-length : tie.Need-same-length
 same-length c = search needs
 
--- src/lib.rt:163:1
 returns : tie.Need-returns
 returns c =
     let s = c .before .before .before .before .before .before .before .before .before .before .before .before .before .before .before .before .args in

@@ -6,6 +6,7 @@ use borrow.Author.Tests.{not-true, not-false}
 use Rattle.tables.specs.Sheets.{Sheet, sheet, refusal}
 use Rattle.tables.proofs.Laws.{accepted}
 use Rattle.windows.proofs.Limits.{nodes-few}
+use Rattle.calls.specs.Ends.{refused}
 use Rattle.calls.proofs.Ends.Refusals.{refused-sheet, refused-9, refused-none}
 use borrow.Author.Needs.{needs}
 use Rattle.ends.proofs.ends.Statement.{statement}
@@ -25,16 +26,19 @@ judge-requires : tie.Need-judge-requires
 judge-requires c κs = search needs
 
 returns : tie.Need-returns
-returns c = let s = c .before .before .before .before .before in (refused-sheet (S s) (s .args .first .now) (s .args .second .now) (c .before .judge .result) (c .before .judge .ensures) (c .if1 .taken), c .if1 .taken, refl, refl)
+returns c = let s = c .before .before .before .before .before in refused (c .before .judge .result) refl (refused-sheet (S s) (s .args .first .now) (s .args .second .now) (c .before .judge .result) (c .before .judge .ensures) (c .if1 .taken)) (c .if1 .taken) refl refl
 
-mul-is-roomy : tie.Need-mul-is-roomy
-mul-is-roomy c = omega (arith, few c)
+mul-numbers : tie.Need-mul-numbers
+mul-numbers c = omega (arith, few c)
+
+mul-numbers-2 : tie.Need-mul-numbers-2
+mul-numbers-2 c = omega (arith, few c)
 
 is-roomy-requires : tie.Need-is-roomy-requires
-is-roomy-requires c κs = few c
+is-roomy-requires c κs = search needs
 
 returns-2 : tie.Need-returns-2
-returns-2 c = let s = c .before .before .before .before .before .before .before in (refused-9 (S s) (s .args .first .now) (s .args .second .now) (clean (c .before .before)) (sym (c .before .is-roomy .ensures) ∙ not-true _ (c .if2 .taken)), (λ e. omega arith), refl, refl)
+returns-2 c = let s = c .before .before .before .before .before .before .before in refused 9 refl (refused-9 (S s) (s .args .first .now) (s .args .second .now) (clean (c .before .before)) (sym (c .before .is-roomy .ensures) ∙ not-true _ (c .if2 .taken))) (λ e. omega arith) refl refl
 
 settle-requires : tie.Need-settle-requires
 settle-requires c κs = let s = c .before .before .before .before .before .before .before .before .before in refused-none (S s) (s .args .first .now) (s .args .second .now) (clean (c .before .before .before .before)) (sym (c .before .before .before .is-roomy .ensures) ∙ not-false _ (c .before .before .if2 .left))
@@ -54,7 +58,8 @@ ends-spec =
     (tie.spec
     judge-requires
     returns
-    mul-is-roomy
+    mul-numbers
+    mul-numbers-2
     is-roomy-requires
     returns-2
     settle-requires

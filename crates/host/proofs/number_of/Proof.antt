@@ -1,7 +1,6 @@
 -- `host::number_of` meets its contract: in each case the number is that of the answer.
 use mathlib.Core.Path.{sym, ap}
-use Rattle.calls.specs.Ask.{number}
-use Rattle.ask.specs.Answers.{answer}
+use Rattle.ask.specs.Answers.{answerAsked}
 use Rattle.ask.specs.declared.Asked.{Asked}
 use borrow.Author.Needs.{needs}
 use Rattle.host.proofs.number_of.Statement.{statement}
@@ -20,10 +19,10 @@ cast-result : tie.Need-cast-result
 cast-result c = search needs
 
 returns : tie.Need-returns
-returns c = sym (ap (λ (a : Asked). number (answer a)) (c .enum-told .given .1))
+returns c = sym (ap (λ (a : Asked). answerAsked a .number) (c .enum-told .given .1))
 
 returns-2 : tie.Need-returns-2
-returns-2 c = sym (ap (λ (a : Asked). number (answer a)) (c .enum-told2 .given .1))
+returns-2 c = sym (ap (λ (a : Asked). answerAsked a .number) (c .enum-told2 .given .1))
 
 returns-3 : tie.Need-returns-3
 returns-3 c = search needs

@@ -1,6 +1,6 @@
 -- `host::settle` meets its contract: the number of the outcome of Ask.
 use mathlib.Core.Path.{sym, subst}
-use Rattle.ask.specs.Answers.{answer}
+use Rattle.ask.specs.Answers.{answerAsked}
 use Rattle.calls.specs.Ask.{timed}
 use Rattle.tables.specs.Sheets.{sheet}
 use Rattle.calls.specs.Host.{Answers}
@@ -27,7 +27,7 @@ returns c =
     let s = a .before .before .before .before .before .before in
     let g = s .args in
     subst (Answers (timed (g .p) (g .q)) (sheet (g .n) (g .m) (g .positions) (g .tables .now) (g .schedule .now)) (g .p) (g .q)) (sym (c .number-of .ensures))
-    (answers _ (g .p) (g .q) (g .plan .now) (g .circuit .now) (s .pre .0) (s .pre .1) (s .pre .2) (answer (a .ask .result)) (a .ask .last .1 .1 .1 .1 .1 .1 .1 .0) (a .ask .last .1 .1 .1 .1 .1 .1 .1 .1 .0) (a .ask .ensures))
+    (answers _ (g .p) (g .q) (g .plan .now) (g .circuit .now) (s .pre .0) (s .pre .1) (s .pre .2) (answerAsked (a .ask .result)) (a .ask .last .1 .1 .1 .1 .1 .1 .1 .0) (a .ask .last .1 .1 .1 .1 .1 .1 .1 .1 .0) (a .ask .ensures))
 
 pub settle-spec : {M : Type 1} → statement M
 settle-spec = tie.close (tie.spec ask-requires number-of-requires same-length same-length-2 returns)

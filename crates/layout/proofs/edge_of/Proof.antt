@@ -5,13 +5,13 @@ use mathlib.Core.Path.{_≡_, refl, sym, ap, ap₂, _∙_}
 use Prim.Native.Nat.{ℕ, zero, suc, _+_, _-_, _*_, _≤_}
 use Rattle.numbers.proofs.Signs.{passed}
 use Rattle.windows.specs.Arcs.{up, down}
-use Rattle.layout.specs.declared.Window.{Window as Item}
+use Rattle.layout.specs.declared.Record.{Record}
 use Rattle.layout.specs.Edges.{byKind, edge}
 use borrow.Author.Needs.{needs}
 use Rattle.layout.proofs.edge_of.Statement.{statement}
 use Rattle.layout.proofs.edge_of.Tie as tie
 
-other : (k : ℕ) (a : Item) (q here next cross : ℕ) → 4 ≤ k → edge 0 0 0 0 ≡ byKind k a q here next cross
+other : (k : ℕ) (a : Record) (q here next cross : ℕ) → 4 ≤ k → edge 0 0 0 0 ≡ byKind k a q here next cross
 unfolding byKind
 other zero a q here next cross h = absurd (omega arith)
 other (suc zero) a q here next cross h = absurd (omega arith)
@@ -34,7 +34,7 @@ down-is : (c : tie.After-struct-known3) → c .before .before .before .lower .re
 down-is c = let d = c .before .before .before in d .lower .ensures .0 ∙ ap down (passed (P c .args .w .w) (d .before .struct-told2 .given .1 .1 .1 .0 .1))
 
 -- the arm of a kind
-arm : (k : ℕ) (a : Item) (q here next cross : ℕ) → a .kind ≡ k → byKind k a q here next cross ≡ byKind (a .kind) a q here next cross
+arm : (k : ℕ) (a : Record) (q here next cross : ℕ) → a .kind ≡ k → byKind k a q here next cross ≡ byKind (a .kind) a q here next cross
 arm k a q here next cross e = ap (λ (j : ℕ). byKind j a q here next cross) (sym e)
 
 upper-requires : tie.Need-upper-requires

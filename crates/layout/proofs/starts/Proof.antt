@@ -5,8 +5,9 @@ use native.Mathlib.Omega.{arith}
 use native.Mathlib.Nat.{le-antisymm}
 use lib.ListN.{length, getD, length-set, length-drop}
 use Rattle.tables.proofs.Laws.{square}
-use Rattle.layout.specs.Records.{modeWindows, Starts}
-use Rattle.layout.proofs.Counting.{mode-few, starts-none, starts-more, start-few, Sizes, sizes, rest}
+use Rattle.layout.specs.Records.{modeRecords, Starts}
+use Rattle.layout.proofs.Laying.{mode-few, laid-few}
+use Rattle.layout.proofs.Counting.{starts-none, starts-more, Sizes, sizes, rest}
 use borrow.Author.Needs.{needs}
 use Rattle.layout.proofs.starts.Statement.{statement}
 use Rattle.layout.proofs.starts.Tie as tie
@@ -21,8 +22,8 @@ fit : (c : tie.In-loop Inv-loop μ-loop) → let l = c .before in Sizes (l .loop
 fit c = let l = c .before in let s = l .before in sizes (l .loop .t) (s .args .m) (s .args .n) (s .pre .1) (s .pre .2) (c .loop-test .taken)
 
 -- the windows of the mode's part are counted
-counted : (c : tie.After-count Inv-loop μ-loop) → let l = c .before .before .before in let a = l .before .args in c .count .result ≡ length (modeWindows (a .tables .now) (a .n) (l .loop .t))
-unfolding modeWindows
+counted : (c : tie.After-count Inv-loop μ-loop) → let l = c .before .before .before in let a = l .before .args in c .count .result ≡ length (modeRecords (a .tables .now) (a .n) (l .loop .t))
+unfolding modeRecords
 counted c = let l = c .before .before .before in let a = l .before .args in rw (rest (l .loop .t * (4 * (a .n * a .n))) (a .tables .now)) at (c .count .ensures)
 
 mul-size : tie.Need-mul-size Inv-loop μ-loop
@@ -62,7 +63,7 @@ array-read-start c = let i = c .before .before in omega (arith, i .before .befor
 
 add-start : tie.Need-add-start Inv-loop μ-loop
 add-start c = let i = c .before .before in let l = i .before in let a = l .before .args in
-    omega (arith, start-few (a .tables .now) (a .n) (l .loop .start) (l .loop .t) (l .loop .inv .2) (l .loop .t) (omega arith), fit i .part, fit i .whole, counted c, mode-few (a .tables .now) (a .n) (l .loop .t))
+    omega (arith, l .loop .inv .2 (l .loop .t) (omega arith), laid-few (a .tables .now) (a .n) (l .loop .t), fit i .part, fit i .whole, counted c, mode-few (a .tables .now) (a .n) (l .loop .t))
 
 add-start-2 : tie.Need-add-start-2 Inv-loop μ-loop
 add-start-2 c = let i = c .before .before in omega (arith, i .before .before .pre .2, i .loop-test .taken)

@@ -13,13 +13,13 @@ reduce-requires : tie.Need-reduce-requires
 reduce-requires c κs = search needs
 
 returns : tie.Need-returns
-returns c = search needs
+returns c = (c .before .before .before .if1 .taken, c .reduce .ensures)
 
 returns-2 : tie.Need-returns-2
-returns-2 c = search needs
+returns-2 c = (c .before .before .if1 .left, c .if2 .taken)
 
 returns-3 : tie.Need-returns-3
-returns-3 c = search needs
+returns-3 c = (c .before .before .if1 .left, c .if2 .left)
 
 pub next-low-spec : {M : Type 1} → statement M
 next-low-spec = tie.close (tie.spec sub-reduce sub-reduce-2 reduce-requires returns returns-2 returns-3)

@@ -5,31 +5,24 @@ use borrow.Author.Needs.{needs}
 use Rattle.lines.proofs.put_arc.Statement.{statement}
 use Rattle.lines.proofs.put_arc.Tie as tie
 
--- src/lib.rt:33:9
 put-number-requires : tie.Need-put-number-requires
 put-number-requires c κs = search needs
 
--- src/lib.rt:34:9
 put-spaced-requires : tie.Need-put-spaced-requires
 put-spaced-requires c κs = search needs
 
--- src/lib.rt:35:9
 put-spaced-requires-2 : tie.Need-put-spaced-requires-2
 put-spaced-requires-2 c κs = search needs
 
--- src/lib.rt:36:9
 put-spaced-requires-3 : tie.Need-put-spaced-requires-3
 put-spaced-requires-3 c κs = search needs
 
--- src/lib.rt:37:5
 put-byte-requires : tie.Need-put-byte-requires
 put-byte-requires c κs = search needs
 
--- src/lib.rt:29:1
 same-length : tie.Need-same-length
 same-length c = search needs
 
--- src/lib.rt:29:1
 returns : tie.Need-returns
 returns c =
     let a = c .before .before .before .before .before .before .before .before .before .before .before .before .before .before .before .before .before .before .put-number .ensures in

@@ -5,27 +5,21 @@ use borrow.Author.Needs.{needs}
 use Rattle.lines.proofs.put_circuit.Statement.{statement}
 use Rattle.lines.proofs.put_circuit.Tie as tie
 
--- src/lib.rt:64:9
 put-word-requires : tie.Need-put-word-requires
 put-word-requires c κs = search needs
 
--- src/lib.rt:65:9
 put-spaced-requires : tie.Need-put-spaced-requires
 put-spaced-requires c κs = search needs
 
--- src/lib.rt:66:9
 put-byte-requires : tie.Need-put-byte-requires
 put-byte-requires c κs = search needs
 
--- src/lib.rt:67:5
 put-arcs-requires : tie.Need-put-arcs-requires
 put-arcs-requires c κs = search needs
 
--- src/lib.rt:60:1
 same-length : tie.Need-same-length
 same-length c = search needs
 
--- src/lib.rt:60:1
 returns : tie.Need-returns
 returns c =
     let a = c .before .before .before .before .before .before .before .before .before .before .before .before .before .before .put-word .ensures in

@@ -13,35 +13,27 @@ Inv-loop out₀ at plan a n next₀ k₀ out next k = (k ≤ n) × (next ≤ at 
 abbrev μ-loop : tie.MeasureT-loop
 μ-loop out₀ at plan a n next₀ k₀ out next k = n - k
 
--- src/lib.rt:121:5
 loop-holds : tie.Need-loop-holds Inv-loop μ-loop
 loop-holds c = let a = c .before .before .args in (omega arith, omega arith, times-none (a .out .now) (a .at) (a .plan .now) (a .a) (a .n))
 
--- src/lib.rt:122:43
 add-put-spaced : tie.Need-add-put-spaced Inv-loop μ-loop
 add-put-spaced c = omega (arith, c .before .loop-test .taken, c .before .before .before .before .before .pre .2, c .before .before .before .before .before .fits)
 
--- src/lib.rt:122:38
 mul-put-spaced : tie.Need-mul-put-spaced Inv-loop μ-loop
 mul-put-spaced c = omega (arith, c .before .loop-test .taken, c .before .before .before .before .before .pre)
 
--- src/lib.rt:122:38
 shared-slice-read-put-spaced : tie.Need-shared-slice-read-put-spaced Inv-loop μ-loop
 shared-slice-read-put-spaced c = omega (arith, c .before .before .loop-test .taken, c .before .before .before .before .before .before .pre .2)
 
--- src/lib.rt:122:9
 put-spaced-requires : tie.Need-put-spaced-requires Inv-loop μ-loop
 put-spaced-requires c κs = omega (arith, c .before .before .loop-test .taken, c .before .before .before .loop .inv .1, c .before .before .before .before .before .before .pre)
 
--- src/lib.rt:123:9
 add-k : tie.Need-add-k Inv-loop μ-loop
 add-k c = omega (arith, c .before .before .before .before .before .loop-test .taken, c .before .before .before .before .before .before .before .before .before .pre .1)
 
--- src/lib.rt:121:5
 loop-less : tie.Need-loop-less Inv-loop μ-loop
 loop-less c = omega (arith, c .before .before .before .before .before .loop-test .taken)
 
--- src/lib.rt:121:5
 loop-again : tie.Need-loop-again Inv-loop μ-loop
 loop-again c =
     let a = c .before .before .before .before .before .before .before .before .before .args in
@@ -50,15 +42,12 @@ loop-again c =
     let e = c .before .before .put-spaced .ensures in
     (omega (arith, h), omega (arith, i .1, e .0), times-turn (a .out .now) (a .at) (a .plan .now) (a .a) (a .n) (c .before .before .before .before .before .before .loop .k) _ _ _ _ h (c .before .before .before .before .before .before .before .before .before .pre .2) (i .2) (e .1))
 
--- src/lib.rt:125:5
 put-byte-requires : tie.Need-put-byte-requires Inv-loop μ-loop
 put-byte-requires c κs = omega (arith, c .before .before .loop .inv .0, c .before .before .loop .inv .1, c .before .before .before .before .before .pre)
 
--- src/lib.rt:115:1
 same-length : tie.Need-same-length Inv-loop μ-loop
 same-length c = let a = c .before .before .before .before .before .before .before .before .args in c .before .before .put-byte .kept .0 ∙ part-length (a .out .now) (a .at) _ _ _ _ (c .before .before .before .before .before .loop .inv .2)
 
--- src/lib.rt:115:1
 returns : tie.Need-returns Inv-loop μ-loop
 returns c =
     let a = c .before .before .before .before .before .before .before .before .args in

@@ -13,27 +13,21 @@ Inv-loop out₀ at plan n positions next₀ g₀ out next g = (g ≤ positions) 
 abbrev μ-loop : tie.MeasureT-loop
 μ-loop out₀ at plan n positions next₀ g₀ out next g = positions - g
 
--- src/lib.rt:135:5
 loop-holds : tie.Need-loop-holds Inv-loop μ-loop
 loop-holds c = let a = c .before .before .args in (omega arith, omega arith, positions-none (a .out .now) (a .at) (a .plan .now) (a .n) (a .positions))
 
--- src/lib.rt:136:43
 mul-put-times : tie.Need-mul-put-times Inv-loop μ-loop
 mul-put-times c = omega (arith, mul-le-mul-right (c .before .before .before .before .before .args .n) (c .before .loop-test .taken), mul-le-mul-left (c .before .before .before .before .before .args .positions) (c .before .before .before .before .before .pre .2), c .before .before .before .before .before .pre)
 
--- src/lib.rt:136:9
 put-times-requires : tie.Need-put-times-requires Inv-loop μ-loop
 put-times-requires c κs = (omega (arith, c .before .loop-test .taken, c .before .before .loop .inv .1, c .before .before .before .before .before .pre), c .before .before .before .before .before .pre .1, c .before .before .before .before .before .pre .2, omega (arith, mul-le-mul-right (c .before .before .before .before .before .args .n) (c .before .loop-test .taken), c .before .before .before .before .before .pre .4))
 
--- src/lib.rt:137:9
 add-g : tie.Need-add-g Inv-loop μ-loop
 add-g c = omega (arith, c .before .before .before .before .loop-test .taken, c .before .before .before .before .before .before .before .before .pre .3)
 
--- src/lib.rt:135:5
 loop-less : tie.Need-loop-less Inv-loop μ-loop
 loop-less c = omega (arith, c .before .before .before .before .loop-test .taken)
 
--- src/lib.rt:135:5
 loop-again : tie.Need-loop-again Inv-loop μ-loop
 loop-again c =
     let a = c .before .before .before .before .before .before .before .before .args in
@@ -42,11 +36,9 @@ loop-again c =
     let e = c .before .before .put-times .ensures in
     (omega (arith, h), omega (arith, i .1, e .0), positions-turn (a .out .now) (a .at) (a .plan .now) (a .n) (a .positions) (c .before .before .before .before .before .loop .g) _ _ _ _ h (i .2) (e .1))
 
--- src/lib.rt:129:1
 same-length : tie.Need-same-length Inv-loop μ-loop
 same-length c = let a = c .before .before .before .before .args in part-length (a .out .now) (a .at) _ _ _ _ (c .before .loop .inv .2)
 
--- src/lib.rt:129:1
 returns : tie.Need-returns Inv-loop μ-loop
 returns c = let a = c .before .before .before .before .args in positions-all (a .out .now) (a .at) (a .plan .now) (a .n) (a .positions) (c .before .loop .g) _ _ (c .loop-test .left) (c .before .loop .inv .2)
 

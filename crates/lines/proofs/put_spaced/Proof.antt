@@ -1,23 +1,19 @@
--- `lines::put_spaced` meets its contract.
+-- `lines::put_spaced` meets its contract: the space, and the number after it.
 use native.Mathlib.Omega.{arith}
 use Rattle.text.proofs.Puts.{puts-then}
 use borrow.Author.Needs.{needs}
 use Rattle.lines.proofs.put_spaced.Statement.{statement}
 use Rattle.lines.proofs.put_spaced.Tie as tie
 
--- src/lib.rt:24:9
 put-byte-requires : tie.Need-put-byte-requires
 put-byte-requires c κs = search needs
 
--- src/lib.rt:25:5
 put-number-requires : tie.Need-put-number-requires
 put-number-requires c κs = search needs
 
--- src/lib.rt:20:1
 same-length : tie.Need-same-length
 same-length c = search needs
 
--- src/lib.rt:20:1
 returns : tie.Need-returns
 returns c = (omega (arith, c .before .before .before .before .before .before .put-byte .ensures .next-is, c .before .before .put-number .ensures .0), puts-then (c .before .before .before .before .before .before .put-byte .ensures) (c .before .before .put-number .ensures .1))
 

@@ -5,35 +5,27 @@ use borrow.Author.Needs.{needs}
 use Rattle.lines.proofs.put_times.Statement.{statement}
 use Rattle.lines.proofs.put_times.Tie as tie
 
--- src/lib.rt:133:42
 mul-put-number : tie.Need-mul-put-number
 mul-put-number c = search needs
 
--- src/lib.rt:133:42
 shared-slice-read-put-number : tie.Need-shared-slice-read-put-number
 shared-slice-read-put-number c = search needs
 
--- src/lib.rt:133:9
 put-number-requires : tie.Need-put-number-requires
 put-number-requires c κs = search needs
 
--- src/lib.rt:134:36
 add-put-following : tie.Need-add-put-following
 add-put-following c = search needs
 
--- src/lib.rt:134:43
 sub-put-following : tie.Need-sub-put-following
 sub-put-following c = search needs
 
--- src/lib.rt:134:5
 put-following-requires : tie.Need-put-following-requires
 put-following-requires c κs = search needs
 
--- src/lib.rt:129:1
 same-length : tie.Need-same-length
 same-length c = search needs
 
--- src/lib.rt:129:1
 returns : tie.Need-returns
 returns c =
     let a = c .before .before .before .before .before .before .before .before .before .before .before .args in

@@ -1,6 +1,6 @@
 -- `numbers::follow` meets its contract: by what the rest is. What was read in three groups is below 2 ^ 21, so that the value fits.
 use Rattle.numbers.specs.Groups.{followed}
-use borrow.Author.Tests.{eq-eqb, ne-eqb}
+use Rattle.numbers.proofs.Reading.{followed-zero, followed-more}
 use native.Mathlib.Omega.{arith}
 use borrow.Author.Needs.{needs}
 use Rattle.numbers.proofs.follow.Statement.{statement}
@@ -19,12 +19,12 @@ enum-known-rest-2 : tie.Need-enum-known-rest-2
 enum-known-rest-2 c = search needs
 
 returns : tie.Need-returns
-unfolding followed
-returns c = rw (c .before .before .rest .given .1, eq-eqb _ _ (c .if1 .taken))
+returns c = let r = c .before .before .rest .given in let a = c .before .before .before .before .args in
+    rw (r .1) (followed-zero (a .low) (r .0 .0) (r .0 .1 .0) (c .if1 .taken))
 
 returns-2 : tie.Need-returns-2
-unfolding followed
-returns-2 c = rw (c .before .before .rest .given .1, ne-eqb _ _ (c .if1 .left))
+returns-2 c = let r = c .before .before .rest .given in let a = c .before .before .before .before .args in
+    rw (r .1) (followed-more (a .low) (r .0 .0) (r .0 .1 .0) (c .if1 .left))
 
 returns-3 : tie.Need-returns-3
 unfolding followed

@@ -1,5 +1,5 @@
 -- `records::read_mode` meets its contract: the windows are put into a cleared part, which is the part laid out.
-use Rattle.sheet.specs.File.{Part, refused, Window, modeAt, windowsAt, tested}
+use Rattle.sheet.specs.File.{Part, refused, Placed, modeAt, recordsAt, tested}
 use Rattle.records.specs.Steps.{Walks, between}
 use Rattle.sheet.proofs.Numbers.{after-value, after-refused, tested-same}
 use Rattle.records.proofs.Ranges.{up-to, refused-is}
@@ -62,10 +62,10 @@ returns-2 c =
     let w = c .before in
     let v = c .before .before .before .before .before .before .before in
     let a = v .before .before .before .before .args in
-    subst (λ (x : Part (List Window)). Walks (storeMode (a .n)) x (a .part .now) (w .read-windows .result) (w .read-windows .last .1 .1 .1 .1 .0))
+    subst (λ (x : Part (List Placed)). Walks (storeMode (a .n)) x (a .part .now) (w .read-windows .result) (w .read-windows .last .1 .1 .1 .1 .0))
     (sym (after-value _ _ _ _ (count-is (a .file .now) (a .n) (a .at) ∙ sym (v .before .before .number-within .ensures) ∙ v .read .given .1)))
     (mode-walks (a .file .now) (a .n) (v .read .given .0 .0) (v .read .given .0 .1 .0) (a .part .now) _ _
-    (subst (λ (l : List ℤ). Walks store (windowsAt (a .file .now) (a .n) (v .read .given .0 .0) 0 (v .read .given .0 .1 .0)) l (w .read-windows .result) (w .read-windows .last .1 .1 .1 .1 .0)) (w .before .before .before .clear .ensures) (w .read-windows .ensures)))
+    (subst (λ (l : List ℤ). Walks store (recordsAt (a .file .now) (a .n) (v .read .given .0 .0) 0 (v .read .given .0 .1 .0)) l (w .read-windows .result) (w .read-windows .last .1 .1 .1 .1 .0)) (w .before .before .before .clear .ensures) (w .read-windows .ensures)))
 
 pub read-mode-spec : {M : Type 1} → statement M
 read-mode-spec =

@@ -7,7 +7,7 @@ use Rattle.numbers.specs.Groups.{numberAt}
 use Rattle.numbers.specs.declared.Number.the-variants.{Value}
 use Rattle.tables.specs.Sheets.{within}
 use Rattle.tables.proofs.Laws.{within-is}
-use Rattle.sheet.specs.File.{refused, windowAt, tested}
+use Rattle.sheet.specs.File.{refused, recordAt, tested}
 use Rattle.sheet.proofs.Numbers.{after-value, after-refused, tested-value}
 use Rattle.records.proofs.Ranges.{refused-is}
 use Rattle.sheet.proofs.Places.{Fit, Steps, steps-fit}
@@ -64,7 +64,7 @@ refusal-requires : tie.Need-refusal-requires
 refusal-requires c κs = search needs
 
 returns : tie.Need-returns
-unfolding windowAt
+unfolding recordAt
 returns c =
     ap refused (refused-is _ _ _ (c .refusal .ensures) (c .before .enum-told .given .1))
     ∙ sym (after-refused _ _ _ (sym (c .before .before .before .kind-at .ensures) ∙ c .before .enum-told .given .1))
@@ -82,7 +82,7 @@ refusal-requires-2 : tie.Need-refusal-requires-2
 refusal-requires-2 c κs = search needs
 
 returns-2 : tie.Need-returns-2
-unfolding windowAt
+unfolding recordAt
 returns-2 c = let k = c .before .before .before .before in
     ap refused (refused-is _ _ _ (c .refusal2 .ensures) (c .before .enum-told2 .given .1))
     ∙ sym (after-value _ _ _ _ (kind-is k) ∙ after-refused _ _ _ (sym (c .before .before .before .number-within .ensures) ∙ c .before .enum-told2 .given .1))
@@ -100,7 +100,7 @@ refusal-requires-3 : tie.Need-refusal-requires-3
 refusal-requires-3 c κs = search needs
 
 returns-3 : tie.Need-returns-3
-unfolding windowAt
+unfolding recordAt
 returns-3 c = let k = c .before .before .before .before in
     ap refused (refused-is _ _ _ (c .refusal3 .ensures) (c .before .enum-told3 .given .1))
     ∙ sym (after-value _ _ _ _ (kind-is (K1 k)) ∙ after-value _ _ _ _ (to-is k) ∙ after-refused _ _ _ (sym (c .before .before .before .number-within2 .ensures) ∙ c .before .enum-told3 .given .1))
@@ -127,7 +127,7 @@ read-value-requires : tie.Need-read-value-requires
 read-value-requires c κs = search needs
 
 returns-4 : tie.Need-returns-4
-unfolding windowAt
+unfolding recordAt
 returns-4 c = let k = c .before in
     c .read-value .ensures ∙ sym (after-value _ _ _ _ (kind-is (K1 (K2 k))) ∙ after-value _ _ _ _ (to-is (K2 k)) ∙ after-value _ _ _ _ (from-is k))
 

@@ -1,7 +1,7 @@
 -- `records::read_windows` meets its contract. The invariant: what ends the records that are left ends them all.
-use Rattle.sheet.proofs.Windows.{placed, few}
+use Rattle.sheet.proofs.Windows.{place-within, few}
 use Rattle.records.proofs.Records.{store, next, stop, done}
-use Rattle.sheet.specs.File.{got, window, windowAt, windowsAt}
+use Rattle.sheet.specs.File.{got, placed, recordAt, recordsAt}
 use Rattle.records.specs.Steps.{Walks, foundPart}
 use Rattle.records.specs.declared.Ending.{Ending}
 use Rattle.numbers.specs.Signs.{decoded}
@@ -18,19 +18,19 @@ use Rattle.records.proofs.read_windows.Statement.{statement}
 use Rattle.records.proofs.read_windows.Tie as tie
 
 abbrev Inv-loop : tie.InvT-loop
-Inv-loop file n count at part₀ low₀ p₀ k₀ part low p k = (k ≤ count) × (length part ≡ length part₀) × ((r : Ending) (now : List ℤ) → Walks store (windowsAt file n (count - k) low p) part r now → Walks store (windowsAt file n count 0 at) part₀ r now)
+Inv-loop file n count at part₀ low₀ p₀ k₀ part low p k = (k ≤ count) × (length part ≡ length part₀) × ((r : Ending) (now : List ℤ) → Walks store (recordsAt file n (count - k) low p) part r now → Walks store (recordsAt file n count 0 at) part₀ r now)
 
 abbrev μ-loop : tie.MeasureT-loop
 μ-loop file n count at part₀ low₀ p₀ k₀ part low p k = count - k
 
 -- the record of this turn
 here : (c : tie.After-place Inv-loop μ-loop) → let l = c .before .before .before .before in let a = l .before .before .args in
-    windowAt (a .file .now) (a .n) (l .loop .low) (l .loop .p) ≡ got (window (c .place .given .0 .0) (decoded (c .place .given .0 .1 .0))) (c .place .given .0 .1 .1 .0)
+    recordAt (a .file .now) (a .n) (l .loop .low) (l .loop .p) ≡ got (placed (c .place .given .0 .0) (decoded (c .place .given .0 .1 .0))) (c .place .given .0 .1 .1 .0)
 here c = sym (c .before .before .read-window .ensures) ∙ ap foundPart (c .place .given .1)
 
 loop-holds : tie.Need-loop-holds Inv-loop μ-loop
 loop-holds c = let a = c .before .args in
-    (omega arith, refl, λ r now h. subst (λ (m : ℕ). Walks store (windowsAt (a .file .now) (a .n) m 0 (a .at)) (a .part .now) r now) (sub-zero (a .count)) h)
+    (omega arith, refl, λ r now h. subst (λ (m : ℕ). Walks store (recordsAt (a .file .now) (a .n) m 0 (a .at)) (a .part .now) r now) (sub-zero (a .count)) h)
 
 read-window-requires : tie.Need-read-window-requires Inv-loop μ-loop
 read-window-requires c κs = search needs
@@ -47,7 +47,7 @@ put-value-requires c κs = search needs
 add-low : tie.Need-add-low Inv-loop μ-loop
 add-low c = let v = c .before .before .before .before .before in
     let s = v .before .before .before .before .before .before in
-    omega (arith, placed _ _ _ _ _ _ (here v), few (s .args .n) (s .pre))
+    omega (arith, place-within _ _ _ _ _ _ (here v), few (s .args .n) (s .pre))
 
 enum-known-number : tie.Need-enum-known-number Inv-loop μ-loop
 enum-known-number c = search needs
@@ -79,7 +79,7 @@ loop-again c =
       omega (arith, v .before .before .before .loop-test .taken),
       w .put-value .kept .0 ∙ l .loop .inv .1,
       λ r now h. l .loop .inv .2 r now (next (a .file .now) (a .n) (a .count) (l .loop .k) (l .loop .low) (l .loop .p) (l .loop .part) (v .before .before .before .loop-test .taken) _ _ (here v) r now
-          (subst (λ (t : List ℤ). Walks store (windowsAt (a .file .now) (a .n) (a .count - (l .loop .k + 1)) (v .place .given .0 .0 + 1) (v .place .given .0 .1 .1 .0)) t r now) e h)),
+          (subst (λ (t : List ℤ). Walks store (recordsAt (a .file .now) (a .n) (a .count - (l .loop .k + 1)) (v .place .given .0 .0 + 1) (v .place .given .0 .1 .1 .0)) t r now) e h)),
     )
 
 same-length-2 : tie.Need-same-length-2 Inv-loop μ-loop

@@ -3,14 +3,14 @@
 use native.Mathlib.Omega.{arith}
 use borrow.Author.Needs.{needs}
 use Rattle.tables.specs.Sheets.{sheet}
-use Rattle.search.specs.Searches.{Stands}
+use Rattle.search.specs.Searches.{LowStands}
 use Rattle.search.proofs.Asking.{stands-ready}
 use Rattle.search.proofs.Rising.{toClimb, fresh-stands, climb-asks, climb-next, climbed-low, climbed-none}
 use Rattle.search.proofs.climb.Statement.{statement}
 use Rattle.search.proofs.climb.Tie as tie
 
 abbrev Inv-loop : tie.InvT-loop
-Inv-loop n m positions tables schedule low₀ found₀ at₀ low found at = Stands (sheet n m positions tables schedule) at low found
+Inv-loop n m positions tables schedule low₀ found₀ at₀ low found at = LowStands (sheet n m positions tables schedule) at low found
 
 abbrev μ-loop : tie.MeasureT-loop
 μ-loop n m positions tables schedule low₀ found₀ at₀ low found at = toClimb (sheet n m positions tables schedule) at

@@ -6,42 +6,33 @@ use borrow.Author.Needs.{needs}
 use Rattle.tamulehk.proofs.print.Statement.{statement}
 use Rattle.tamulehk.proofs.print.Tie as tie
 
--- src/main.rt:9:11
 report-requires : tie.Need-report-requires
 report-requires c κs = search needs
 
--- src/main.rt:10:25
 enum-known-length : tie.Need-enum-known-length
 enum-known-length c = search needs
 
--- src/main.rt:11:42
 slice-reshare-prefix-write-all : tie.Need-slice-reshare-prefix-write-all
 slice-reshare-prefix-write-all c = within _ _ _ _ _ (c .before .length .given .1) (c .before .before .before .before .before .report .ensures)
 
--- src/main.rt:11:42
 slice-aggregate-write-all : tie.Need-slice-aggregate-write-all
 slice-aggregate-write-all c = sym (length-take-le _ _ (within _ _ _ _ _ (c .before .before .length .given .1) (c .before .before .before .before .before .before .report .ensures)))
 
--- src/main.rt:11:13
 write-all-requires : tie.Need-write-all-requires
 write-all-requires c κs = search needs
 
 enum-told : tie.Need-enum-told
 enum-told c = search needs
 
--- src/main.rt:8:1
 same-length : tie.Need-same-length
 same-length c = search needs
 
--- src/main.rt:8:1
 returns : tie.Need-returns
 returns c = search needs
 
--- src/main.rt:8:1
 same-length-2 : tie.Need-same-length-2
 same-length-2 c = search needs
 
--- src/main.rt:8:1
 returns-2 : tie.Need-returns-2
 returns-2 c = search needs
 

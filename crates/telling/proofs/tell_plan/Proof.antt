@@ -8,15 +8,12 @@ use borrow.Author.Needs.{needs}
 use Rattle.telling.proofs.tell_plan.Statement.{statement}
 use Rattle.telling.proofs.tell_plan.Tie as tie
 
--- src/lib.rt:35:11
 ask-requires : tie.Need-ask-requires
 ask-requires c κs = search needs
 
--- src/lib.rt:36:27
 enum-known-rounds : tie.Need-enum-known-rounds
 enum-known-rounds c = search needs
 
--- src/lib.rt:36:39
 put-plan-requires : tie.Need-put-plan-requires
 put-plan-requires c κs =
     let s = c .before .before .before .before .before .before .before .before .before .before .before .before .before .before .before .before in
@@ -24,54 +21,42 @@ put-plan-requires c κs =
     let z = ok .size in
     (omega (arith, s .pre .3), z .some-events, z .few-events, z .few-positions, omega (arith, nodes-few _ ok, c .before .before .before .before .before .before .before .before .before .ask .kept .1 .1 .1 .1 .1 .1 .1 .0, s .pre .1))
 
--- src/lib.rt:37:39
 enum-told : tie.Need-enum-told
 enum-told c = search needs
 
--- src/lib.rt:38:41
 enum-told-2 : tie.Need-enum-told-2
 enum-told-2 c = search needs
 
--- src/lib.rt:19:1
 same-length : tie.Need-same-length
 same-length c = search needs
 
--- src/lib.rt:19:1
 same-length-2 : tie.Need-same-length-2
 same-length-2 c = search needs
 
--- src/lib.rt:19:1
 same-length-3 : tie.Need-same-length-3
 same-length-3 c = search needs
 
--- src/lib.rt:19:1
 returns : tie.Need-returns
 returns c =
     let s = c .before .before .before .before .before .before .before .before .before .before .before .before .before .before .before .before .before .before .before in
     let a = c .before .before .before .before .before .before .before .before .before .before .before .before .ask in
     asked-plan _ _ _ (s .pre .0) _ _ (s .pre .1) (s .pre .2) (a .result) _ _ (a .ensures) _ (c .before .before .before .before .before .before .rounds .given .1) (a .kept .1 .1 .1 .1 .1 .1 .1 .0 ∙ s .pre .1) (c .before .before .put-plan .ensures)
 
--- src/lib.rt:19:1
 same-length-4 : tie.Need-same-length-4
 same-length-4 c = search needs
 
--- src/lib.rt:19:1
 same-length-5 : tie.Need-same-length-5
 same-length-5 c = search needs
 
--- src/lib.rt:19:1
 returns-2 : tie.Need-returns-2
 returns-2 c = let s = c .before .before .before .before .before .before .before .before .before .before .before .before .before in let a = c .before .before .before .before .before .before .ask in absurd (asked-refuted _ _ _ (s .pre .0) _ _ (s .pre .1) (s .pre .2) (a .result) _ _ (a .ensures) _ (c .enum-told .given .1))
 
--- src/lib.rt:19:1
 same-length-6 : tie.Need-same-length-6
 same-length-6 c = search needs
 
--- src/lib.rt:19:1
 same-length-7 : tie.Need-same-length-7
 same-length-7 c = search needs
 
--- src/lib.rt:19:1
 returns-3 : tie.Need-returns-3
 returns-3 c = let s = c .before .before .before .before .before .before .before .before .before .before .before .before .before in let a = c .before .before .before .before .before .before .ask in absurd (asked-refused _ _ _ (s .pre .0) _ _ (s .pre .1) (s .pre .2) (a .result) _ _ (a .ensures) _ (c .enum-told2 .given .1))
 

@@ -5,27 +5,21 @@ use borrow.Author.Needs.{needs}
 use Rattle.text.proofs.put_byte.Statement.{statement}
 use Rattle.text.proofs.put_byte.Tie as tie
 
--- src/lib.rt:19:9
 slice-write-out : tie.Need-slice-write-out
 slice-write-out c = search needs
 
--- src/lib.rt:20:16
 add-result : tie.Need-add-result
 add-result c = search needs
 
--- src/lib.rt:20:9
 same-length : tie.Need-same-length
 same-length c = search needs
 
--- src/lib.rt:20:9
 returns : tie.Need-returns
 returns c = record { next-is = refl; out-is = refl }
 
--- src/lib.rt:22:5
 add-result-2 : tie.Need-add-result-2
 add-result-2 c = search needs
 
--- src/lib.rt:14:1
 returns-2 : tie.Need-returns-2
 returns-2 c = record { next-is = refl; out-is = sym (set-out _ _ _ (c .if1 .left)) }
 

@@ -19,11 +19,11 @@ reach c = let s = P c in let a = s .args in subst (λ (e : Edge). Reach e (a .ol
 abbrev A : tie.Start → Named
 A c = let a = c .args in named (a .w) (a .turn .at) (a .turn .first + a .i)
 
-add-number : tie.Need-add-number
-add-number c = search needs
+add-mark-at : tie.Need-add-mark-at
+add-mark-at c = search needs
 
-number-requires : tie.Need-number-requires
-number-requires c κs = search needs
+mark-at-requires : tie.Need-mark-at-requires
+mark-at-requires c κs = search needs
 
 edge-of-requires : tie.Need-edge-of-requires
 edge-of-requires c κs = search needs
@@ -72,18 +72,18 @@ same-length-2 c = search needs
 
 returns : tie.Need-returns
 returns c = let e = c .before .before .before .before .before .before in let m = c .before .before .before .less in let s = P e in let a = s .args in
-    raise-more (a .old .now) (a .turn .round * 192) (A s) (board (a .new .now) (a .marks .now)) (e .before .number .result) (e .edge-of .result) (m .result) (e .before .number .ensures) (e .edge-of .ensures) (m .ensures) (c .before .if1 .taken)
+    raise-more (a .old .now) (a .turn .round * 192) (A s) (board (a .new .now) (a .marks .now)) (e .before .mark-at .result) (e .edge-of .result) (m .result) (e .before .mark-at .ensures) (e .edge-of .ensures) (m .ensures) (c .before .if1 .taken)
 
 returns-2 : tie.Need-returns-2
 returns-2 c = let e = c .before .before .before .before .before in let m = c .before .before .less in let s = P e in let a = s .args in
-    raise-same (a .old .now) (a .turn .round * 192) (A s) (board (a .new .now) (a .marks .now)) (e .before .number .result) (e .edge-of .result) (m .result) (e .before .number .ensures) (e .edge-of .ensures) (m .ensures) (c .if1 .left)
+    raise-same (a .old .now) (a .turn .round * 192) (A s) (board (a .new .now) (a .marks .now)) (e .before .mark-at .result) (e .edge-of .result) (m .result) (e .before .mark-at .ensures) (e .edge-of .ensures) (m .ensures) (c .if1 .left)
 
 pub step-spec : {M : Type 1} → statement M
 step-spec =
     tie.close
     (tie.spec
-    add-number
-    number-requires
+    add-mark-at
+    mark-at-requires
     edge-of-requires
     mul-less
     shared-slice-read-less

@@ -57,10 +57,10 @@ use denote.Triple.Spec.{Meets, tripleOf}
 use denote.Triple.Table.{entered, cited}
 use denote.Triple.Walked.{says, needs, Stays, stay-dropped, stay-slice, walkOf, goes-dropped, goes-slice, Walks, ends-at, walked, walk-meets}
 use denote.Exit.{yes}
-use Rattle.layout.specs.declared.Window.{Window}
-use Rattle.layout.specs.Records.{item, nothing as no-window}
-use Rattle.layout.proofs.Window as T
-use Rattle.layout.proofs.Window.Laws as T′
+use Rattle.layout.specs.declared.Record.{Record}
+use Rattle.layout.specs.Records.{listed}
+use Rattle.layout.proofs.Record as T
+use Rattle.layout.proofs.Record.Laws as T′
 use Rattle.turns.specs.declared.Job.{Job}
 use Rattle.turns.specs.declared.Turn.{Turn}
 use Rattle.turns.specs.Rounds.{board, after, passed, roundOf, turnOf, Able, Posed, Parts, Next, Ran}
@@ -150,7 +150,7 @@ lower : (a t b : ℕ) → a ≡ suc t → b < a → b < suc t
 lower a t b e l = omega (arith, e, l)
 
 -- where a part begins
-begins : (xs : List Window) (a : ℕ) → a ≤ length xs → a * 8 + 0 ≡ at 0 8 (length (take a xs))
+begins : (xs : List Record) (a : ℕ) → a ≤ length xs → a * 8 + 0 ≡ at 0 8 (length (take a xs))
 begins xs a l = sym (at-mul 0 8 (length (take a xs)) ∙ ap (λ (k : ℕ). k * 8 + 0) (length-take-le a xs l))
 
 -- the types of the locals
@@ -204,7 +204,7 @@ module _ {M : Type 1} (𝓤 : URA M) (H : Heap 𝓤) (A : Atoms 𝓤) (mem : Mem
   abbrev Nexts : Contract 𝓤
   Nexts = tripleOf 𝓤 H A next.signature (next.spec 𝓤 H A mem run)
 
-module _ {M : Type 1} (𝓤 : URA M) (H : Heap 𝓤) (A : Atoms 𝓤) (W : Given 𝓤 H A) (mem : Memory → SProp 𝓤) (run : Routine → Fun 𝓤) (κ₀ κ₁ κ₂ κ₃ : Lft) (q₀ q₁ q₂ q₃ : Share) (xs : List Window) (begin : Turn) (job : Job) (schedule old new marks : RefT (List ℕ)) where
+module _ {M : Type 1} (𝓤 : URA M) (H : Heap 𝓤) (A : Atoms 𝓤) (W : Given 𝓤 H A) (mem : Memory → SProp 𝓤) (run : Routine → Fun 𝓤) (κ₀ κ₁ κ₂ κ₃ : Lft) (q₀ q₁ q₂ q₃ : Share) (xs : List Record) (begin : Turn) (job : Job) (schedule old new marks : RefT (List ℕ)) where
   abbrev n : ℕ
   n = length xs
 
@@ -240,7 +240,7 @@ module _ {M : Type 1} (𝓤 : URA M) (H : Heap 𝓤) (A : Atoms 𝓤) (W : Given
   qs = (q₀, (q₁, (q₂, (q₃, tt))))
 
   abbrev Args : Type 0
-  Args = List Window × (Turn × (Job × (RefT (List ℕ) × (RefT (List ℕ) × (RefT (List ℕ) × (RefT (List ℕ) × Unit {0}))))))
+  Args = List Record × (Turn × (Job × (RefT (List ℕ) × (RefT (List ℕ) × (RefT (List ℕ) × (RefT (List ℕ) × Unit {0}))))))
 
   abbrev args : Args
   args = (xs, (begin, (job, (schedule, (old, (new, (marks, tt)))))))
@@ -280,13 +280,13 @@ module _ {M : Type 1} (𝓤 : URA M) (H : Heap 𝓤) (A : Atoms 𝓤) (W : Given
       owned ! S (Is S) (LL.makes TT.the-type TT′.the-plain 𝓤 H A) r _ is $ done !
 
   -- the part of a turn, where it begins in the slot at l, and what is lent of it
-  abbrev part : St → List Window
+  abbrev part : St → List Record
   part z = take (z .turn .last - z .turn .first) (drop-list (z .turn .first) xs)
 
   abbrev place : St → ℕ
   place z = at 0 8 (length (take (z .turn .first) xs))
 
-  abbrev lent-part : ℕ → St → GName → RefT (List Window)
+  abbrev lent-part : ℕ → St → GName → RefT (List Record)
   lent-part l z γ = record { ptr = (l, place z); name = γ; now = part z }
 
   -- the call of `pass`
@@ -307,7 +307,7 @@ module _ {M : Type 1} (𝓤 : URA M) (H : Heap 𝓤) (A : Atoms 𝓤) (W : Given
       ∷ ‵ (MutSlice (named 2) (ν ∷ []) u64 .own (x new δ (z .new)) (sliceVal (new .ptr) (length (z .new)) ∷ [])) ∷ ‵ (MutSlice (named 3) (ξ ∷ []) u32 .own (x marks ε (z .marks)) (sliceVal (marks .ptr) (length (z .marks)) ∷ []))
       ∷ ‵ (flft (α ∷ []) fullShare) ∷ ‵ (flft (β ∷ []) fullShare) ∷ ‵ (flft (ν ∷ []) fullShare) ∷ ‵ (flft (ξ ∷ []) fullShare) ∷ []
 
-  goes-pass : (z : St) (l α β ν ξ : ℕ) (γ γ₁ δ ε : GName) → ((i : ℕ) → i < length (part z) → Able (getD (part z) i (item no-window)) (z .turn .at) (z .turn .first + i) (z .old) (z .new) (z .marks) (z .turn .round * 192))
+  goes-pass : (z : St) (l α β ν ξ : ℕ) (γ γ₁ δ ε : GName) → ((i : ℕ) → i < length (part z) → Able (listed (part z) i) (z .turn .at) (z .turn .first + i) (z .old) (z .new) (z .marks) (z .turn .round * 192))
       → ent 𝓤 (⋆ 𝓤 H A (Given-pass z l α β ν ξ γ γ₁ δ ε)) (Pass 𝓤 H A mem run .pre (to-pass z l α β ν ξ γ γ₁ δ ε))
   goes-pass z l α β ν ξ γ γ₁ δ ε ok =
       qed W (Given-pass z l α β ν ξ γ γ₁ δ ε) ∵ says ! ok $
@@ -380,7 +380,7 @@ module _ {M : Type 1} (𝓤 : URA M) (H : Heap 𝓤) (A : Atoms 𝓤) (W : Given
     inside : (t : ℕ) (z : St) → Good (suc t) z → z .turn .last ≤ n
     inside t z good = part-below xs job (schedule .now) posed parts long (z .turn) (z .old) (z .new) (z .marks) (good .0) (more t z good)
 
-    pass-ok : (t : ℕ) (z : St) → Good (suc t) z → (i : ℕ) → i < length (part z) → Able (getD (part z) i (item no-window)) (z .turn .at) (z .turn .first + i) (z .old) (z .new) (z .marks) (z .turn .round * 192)
+    pass-ok : (t : ℕ) (z : St) → Good (suc t) z → (i : ℕ) → i < length (part z) → Able (listed (part z) i) (z .turn .at) (z .turn .first + i) (z .old) (z .new) (z .marks) (z .turn .round * 192)
     pass-ok t z good = pass-able xs job (schedule .now) posed parts long (z .turn) (z .old) (z .new) (z .marks) (good .0) (more t z good)
 
     next-ok : (t : ℕ) (z : St) → Good (suc t) z → (l : List ℕ) → length l ≡ length (z .new) → Ready z l
@@ -398,7 +398,7 @@ module _ {M : Type 1} (𝓤 : URA M) (H : Heap 𝓤) (A : Atoms 𝓤) (W : Given
       En = (TT′.mir, l₀) ∷ (slot K, l₁) ∷ (TT′.mir, l₂) ∷ (JJ′.mir, l₃) ∷ (ty₄, l₄) ∷ (ty₅, l₅) ∷ (ty₆, l₆) ∷ (ty₇, l₇) ∷ (slot K, l₈) ∷ (part-ty, l₉) ∷ (TT′.mir, l₁₀) ∷ (whole-ref, l₁₁) ∷ (tyBool, l₁₂) ∷ (tyUnit, l₁₃) ∷ (word, l₁₄) ∷ (tyPtr, l₁₅) ∷ (word, l₁₆) ∷ (elem-ref, l₁₇) ∷ (part-ty, l₁₈) ∷ (ref64, l₁₉) ∷ (slice64, l₂₀) ∷ (mut64, l₂₁) ∷ (mut-slice64, l₂₂) ∷ (mut32, l₂₃) ∷ (mut-slice32, l₂₄) ∷ (mut64, l₂₅) ∷ (mut-slice64, l₂₆) ∷ (ref64, l₂₇) ∷ (slice64, l₂₈) ∷ []
 
       -- the whole list, lent
-      abbrev lent : RefT (List Window)
+      abbrev lent : RefT (List Record)
       lent = record { ptr = (l₈, 0); name = γ₀; now = xs }
 
       abbrev Ws : Fml

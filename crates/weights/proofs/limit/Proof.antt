@@ -16,7 +16,7 @@ wide-requires c κs = search needs
 mode-at-requires : tie.Need-mode-at-requires
 mode-at-requires c κs =
     let names = c .before .before .pre in
-    (omega (arith, c .wide .ensures, names .valid .from-first), omega (arith, c .wide .ensures, named _ _ _ _ _ names .scheduled))
+    (omega (arith, c .wide .ensures, names .from-first), omega (arith, c .wide .ensures, named _ _ _ _ _ names .scheduled))
 
 wide-requires-2 : tie.Need-wide-requires-2
 wide-requires-2 c κs = search needs
@@ -35,10 +35,10 @@ place-of-requires c κs =
       f .few-events,
       omega (arith, f .mode-below, c .before .before .before .mode-at .ensures, ap (λ (k : ℕ). getD (start .args .schedule .now) (k - 1) 0) (c .before .before .before .before .wide .ensures)),
       omega (arith, c .before .before .wide2 .ensures, names .few-kinds),
-      omega (arith, c .before .wide3 .ensures, names .valid .to-event .0),
-      omega (arith, c .before .wide3 .ensures, names .valid .to-event .1),
-      omega (arith, c .wide4 .ensures, names .valid .from-event .0),
-      omega (arith, c .wide4 .ensures, names .valid .from-event .1),
+      omega (arith, c .before .wide3 .ensures, names .to-event .0),
+      omega (arith, c .before .wide3 .ensures, names .to-event .1),
+      omega (arith, c .wide4 .ensures, names .from-event .0),
+      omega (arith, c .wide4 .ensures, names .from-event .1),
     )
 
 mul-result : tie.Need-mul-result

@@ -1,35 +1,43 @@
 -- `weights::weigh` meets its contract. The invariant: the total is the sums of the first k arcs, and small; the measure is what is left.
-use mathlib.Core.Path.{_≡_}
+use mathlib.Core.Path.{_≡_, ap, _∙_}
 use Prim.Native.Nat.{_-_, _≤_}
 use native.Mathlib.Omega.{arith}
 use native.Mathlib.Nat.{le-antisymm}
+use borrow.Author.Needs.{needs}
+use Rattle.limits.specs.declared.Weight.{Weight}
 use Rattle.tables.specs.Sheets.{sheet}
-use Rattle.windows.specs.Buffers.{stepsIn}
-use Rattle.weights.specs.Weights.{weightsOf, Light}
-use Rattle.weights.proofs.Weighing.{weights-none, weights-step, weights-all, light-more}
+use Rattle.weights.specs.Weights.{weight, weightsIn, Light}
+use Rattle.weights.proofs.Weighing.{weights-step, light-more}
 use Rattle.weights.proofs.weigh.Statement.{statement}
 use Rattle.weights.proofs.weigh.Tie as tie
 
 abbrev Inv-loop : tie.InvT-loop
 Inv-loop n m positions tables schedule circuit count total₀ k₀ total k =
-    (k ≤ count) × (total ≡ weightsOf (sheet n m positions tables schedule) (stepsIn circuit k)) × Light k total
+    (k ≤ count) × (total ≡ weightsIn (sheet n m positions tables schedule) circuit k) × Light k total
 
 abbrev μ-loop : tie.MeasureT-loop
 μ-loop n m positions tables schedule circuit count total₀ k₀ total k = count - k
 
+sums-requires : tie.Need-sums-requires Inv-loop μ-loop
+sums-requires c κs = search needs
+
+-- nothing is light
+light-none : (w : Weight) → w ≡ weight 0 0 0 0 → Light 0 w
+light-none w e = rw e (omega arith, omega arith, omega arith, omega arith)
+
 loop-holds : tie.Need-loop-holds Inv-loop μ-loop
-unfolding stepsIn
-loop-holds c = (omega arith, weights-none _, (omega arith, omega arith, omega arith, omega arith))
+unfolding weightsIn
+loop-holds c = (omega arith, c .sums .ensures, light-none (c .sums .result) (c .sums .ensures))
 
 weigh-at-requires : tie.Need-weigh-at-requires Inv-loop μ-loop
 weigh-at-requires c κs =
-    let l = c .before .before .before .before .pre in
+    let l = c .before .before .before .before .before .pre in
     (omega (arith, l .few), omega (arith, l .long), l .each (c .before .loop .k) (c .loop-test .taken))
 
 add-requires : tie.Need-add-requires Inv-loop μ-loop
 add-requires c κs =
     let i = c .before .before .loop .inv in
-    let few = c .before .before .before .before .before .pre .few in
+    let few = c .before .before .before .before .before .before .pre .few in
     let h = c .before .loop-test .taken in
     ((omega (arith, i .2, few, h), omega (arith, i .2, few, h), omega (arith, i .2, few, h), omega (arith, i .2, few, h)), c .weigh-at .ensures .1)
 
@@ -50,9 +58,10 @@ loop-again c =
 returns : tie.Need-returns Inv-loop μ-loop
 returns c =
     let i = c .before .loop .inv in
-    let few = c .before .before .before .before .pre .few in
-    let end : c .before .loop .k ≡ c .before .before .before .before .args .count = le-antisymm (i .0) (c .loop-test .left) in (
-      weights-all _ _ _ _ _ (i .1) end,
+    let s = c .before .before .before .before .before in
+    let few = s .pre .few in
+    let end : c .before .loop .k ≡ s .args .count = le-antisymm (i .0) (c .loop-test .left) in (
+      i .1 ∙ ap (weightsIn _ _) end,
       (omega (arith, i .2, few), omega (arith, i .2, few), omega (arith, i .2, few), omega (arith, i .2, few)),
     )
 
@@ -62,6 +71,7 @@ weigh-spec =
     (tie.spec
     Inv-loop
     μ-loop
+    sums-requires
     loop-holds
     weigh-at-requires
     add-requires

@@ -3,9 +3,8 @@ use mathlib.Core.Path.{ap, _∙_}
 use native.Mathlib.Omega.{arith}
 use borrow.Author.Needs.{needs}
 use Rattle.windows.specs.Arcs.{up, down}
-use Rattle.windows.specs.Buffers.{kindOf}
 use Rattle.numbers.proofs.Signs.{passed}
-use Rattle.weights.proofs.Weighing.{weigh-arc, light-kind}
+use Rattle.weights.proofs.Weighing.{kind-same, light-kind}
 use Rattle.weights.proofs.weigh_arc.Statement.{statement}
 use Rattle.weights.proofs.weigh_arc.Tie as tie
 
@@ -26,12 +25,13 @@ by-kind-requires c κs = search needs
 
 returns : tie.Need-returns
 returns c =
-    let names = c .before .before .before .before .before .before .pre in
+    let u = c .before .before .before .upper .ensures in
+    let d = c .before .before .lower .ensures in
+    let x = c .before .crossing .ensures in
     let l = c .before .before .before .before .limit in
     let value = passed (l .result) (l .ok) ∙ l .ensures in (
-      weigh-arc _ _ _ _ _ names _ _ _ (c .before .before .before .upper .ensures .0 ∙ ap up value) (c .before .before .lower .ensures .0 ∙ ap down value)
-          (c .before .crossing .ensures .0) _ (c .by-kind .ensures),
-      light-kind (kindOf (c .before .before .before .before .before .before .args .kind)) _ _ _ _ (c .by-kind .ensures) (omega (arith, c .before .before .before .upper .ensures .1)) (omega (arith, c .before .before .lower .ensures .1)) (c .before .crossing .ensures .1),
+      kind-same _ _ _ _ _ _ _ _ (c .by-kind .ensures) (u .0 ∙ ap up value) (d .0 ∙ ap down value) (x .0),
+      light-kind (c .before .before .before .before .before .before .args .kind) _ _ _ _ (c .by-kind .ensures) (omega (arith, u .1)) (omega (arith, d .1)) (x .1),
     )
 
 pub weigh-arc-spec : {M : Type 1} → statement M

@@ -1,5 +1,5 @@
 -- `writer::count_windows` meets its contract. The invariant: the count and the windows that are left are all windows.
-use Rattle.sheet.specs.Written.{windowsOf}
+use Rattle.sheet.specs.Written.{placedOf}
 use Rattle.writer.proofs.Rows.{left, left-none, count-absent, count-present}
 use mathlib.Core.Path.{_≡_, sym, ap, _∙_}
 use mathlib.Core.Logic.{⊎-elim}
@@ -16,7 +16,7 @@ use Rattle.writer.proofs.count_windows.Statement.{statement}
 use Rattle.writer.proofs.count_windows.Tie as tie
 
 abbrev Inv-loop : tie.InvT-loop
-Inv-loop part size count₀ k₀ count k = (k ≤ size) × (size ≤ length part) × (count ≤ k) × (count + length (left part size k) ≡ length (windowsOf 0 (take size part)))
+Inv-loop part size count₀ k₀ count k = (k ≤ size) × (size ≤ length part) × (count ≤ k) × (count + length (left part size k) ≡ length (placedOf 0 (take size part)))
 
 abbrev μ-loop : tie.MeasureT-loop
 μ-loop part size count₀ k₀ count k = size - k
@@ -29,7 +29,7 @@ here : (c : tie.After-is-absent Inv-loop μ-loop) → c .is-absent .result ≡ a
 here c = c .is-absent .ensures ∙ ap absent (passed (getD (c .before .before .before .before .args .part .now) (c .before .before .before .loop .k) (pos 0)) (c .before .is-absent-arg .given))
 
 loop-holds : tie.Need-loop-holds Inv-loop μ-loop
-loop-holds c = let a = c .args in (omega arith, c .pre, omega arith, start _ (ap (λ (j : ℕ). length (windowsOf 0 (take j (a .part .now)))) (sub-zero (a .size))))
+loop-holds c = let a = c .args in (omega arith, c .pre, omega arith, start _ (ap (λ (j : ℕ). length (placedOf 0 (take j (a .part .now)))) (sub-zero (a .size))))
 
 mul-is-absent : tie.Need-mul-is-absent Inv-loop μ-loop
 mul-is-absent c = search needs

@@ -1,5 +1,6 @@
 -- `writer::write_all` meets its contract: the numbers in their order, each after what is written so far.
-use Rattle.tables.proofs.Laws.{Sizes, accepted}
+use Rattle.tables.specs.Admitted.{Sizes}
+use Rattle.tables.proofs.Laws.{accepted}
 use Rattle.sheet.proofs.Sheets.{places-are}
 use Rattle.writer.proofs.Runs.{run-few, run-more}
 use mathlib.Core.Path.{_≡_}

@@ -20,8 +20,8 @@ returns c = let s = c .before .before .before in
 encode-requires : tie.Need-encode-requires
 encode-requires c κs = search needs
 
-wide-requires : tie.Need-wide-requires
-wide-requires c κs = search needs
+number-of-requires : tie.Need-number-of-requires
+number-of-requires c κs = search needs
 
 write-window-requires : tie.Need-write-window-requires
 write-window-requires c κs = search needs
@@ -36,7 +36,7 @@ returns-2 c =
     let d = w .before .before in
     let l = d .before .before in
     let s = l .before .before .before in
-    let e : w .before .wide .result ≡ encoded (s .args .value) = w .before .wide .ensures ∙ d .encode .ensures ∙ ap encoded (passed (s .args .value) (s .fits .value .sfits)) in
+    let e : w .before .number-of .result ≡ encoded (s .args .value) = w .before .number-of .ensures ∙ d .encode .ensures ∙ ap encoded (passed (s .args .value) (s .fits .value .sfits)) in
     rw (sym (ap absent (passed (s .args .value) (s .fits .value .sfits))) ∙ sym (l .before .is-absent .ensures) ∙ l .if1 .left) (rw e at (w .write-window .ensures))
 
 pub write-cell-spec : {M : Type 1} → statement M
@@ -46,7 +46,7 @@ write-cell-spec =
     is-absent-requires
     returns
     encode-requires
-    wide-requires
+    number-of-requires
     write-window-requires
     same-length
     returns-2)

@@ -1,5 +1,5 @@
 -- `writer::write_mode` meets its contract: the count, and then the records.
-use Rattle.sheet.specs.Written.{windowsOf, modeNumbers}
+use Rattle.sheet.specs.Written.{placedOf, modeNumbers}
 use Rattle.writer.proofs.Runs.{run-few, run-more}
 use mathlib.Core.Path.{_≡_, ap, _∙_}
 use mathlib.Core.List.{[], _∷_}
@@ -36,7 +36,7 @@ returns c =
     let w = c .before .before in
     let v = w .before .before .before .before in
     let a = v .before .before .before .before .args in
-    let n : state (v .write-number .result) (v .write-number .last .0) ≡ run (a .out .now) (a .at) (length (windowsOf 0 (take (4 * (a .n * a .n)) (a .part .now))) ∷ []) =
+    let n : state (v .write-number .result) (v .write-number .last .0) ≡ run (a .out .now) (a .at) (length (placedOf 0 (take (4 * (a .n * a .n)) (a .part .now))) ∷ []) =
     v .write-number .ensures ∙ ap (λ (k : ℕ). run (a .out .now) (a .at) (k ∷ [])) (v .before .count-windows .ensures) in
     run-more (a .out .now) (a .at) _ _ _ n _ _ _ (w .write-windows .ensures)
 

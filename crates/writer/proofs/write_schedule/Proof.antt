@@ -21,11 +21,11 @@ abbrev μ-loop : tie.MeasureT-loop
 loop-holds : tie.Need-loop-holds Inv-loop μ-loop
 loop-holds c = let a = c .before .before .args in (omega arith, refl, omega arith, ap (λ (j : ℕ). run (a .out .now) (a .at) (take j (a .schedule .now))) (sub-zero (a .positions)))
 
-shared-slice-read-mode-of : tie.Need-shared-slice-read-mode-of Inv-loop μ-loop
-shared-slice-read-mode-of c = let s = c .before .before .before .before .before .before in omega (arith, c .before .before .loop-test .taken, s .pre .1)
+shared-slice-read-wide : tie.Need-shared-slice-read-wide Inv-loop μ-loop
+shared-slice-read-wide c = let s = c .before .before .before .before .before .before in omega (arith, c .before .before .loop-test .taken, s .pre .1)
 
-mode-of-requires : tie.Need-mode-of-requires Inv-loop μ-loop
-mode-of-requires c κs = search needs
+wide-requires : tie.Need-wide-requires Inv-loop μ-loop
+wide-requires c κs = search needs
 
 write-number-requires : tie.Need-write-number-requires Inv-loop μ-loop
 write-number-requires c κs = let l = c .before .before .before .before in let s = l .before .before .before in omega (arith, l .loop .inv .2, l .loop .inv .0, s .pre .0, s .pre .2)
@@ -44,7 +44,7 @@ loop-again c =
     let a = s .args in
     let h : l .loop .h < a .positions = w .before .before .before .before .loop-test .taken in
     let e : state (w .write-number .result) (w .write-number .last .0) ≡ run (l .loop .out) (l .loop .p) (getD (a .schedule .now) (l .loop .h) 0 ∷ []) =
-    w .write-number .ensures ∙ ap (λ (x : ℕ). run (l .loop .out) (l .loop .p) (x ∷ [])) (w .before .mode-of .ensures) in (
+    w .write-number .ensures ∙ ap (λ (x : ℕ). run (l .loop .out) (l .loop .p) (x ∷ [])) (w .before .wide .ensures) in (
       omega arith,
       w .write-number .kept .0 ∙ l .loop .inv .1,
       omega (arith, run-few _ _ _ _ _ e, l .loop .inv .2),
@@ -64,8 +64,8 @@ write-schedule-spec =
     Inv-loop
     μ-loop
     loop-holds
-    shared-slice-read-mode-of
-    mode-of-requires
+    shared-slice-read-wide
+    wide-requires
     write-number-requires
     add-h
     loop-less

@@ -6,7 +6,7 @@ use native.Mathlib.Nat.{sub-zero, suc-mul, mul-le-mul-right}
 use lib.ListN.{length, take, drop, length-drop}
 use lib.Seq.{length-take-le}
 use Rattle.tables.proofs.Laws.{square}
-use Rattle.sheet.specs.Written.{windowsOf, records}
+use Rattle.sheet.specs.Written.{placedOf, records}
 use Rattle.writer.specs.Steps.{run}
 use Rattle.writer.proofs.Rows.{left, places-short, kinds-next, kinds-done}
 use borrow.Author.Needs.{needs}
@@ -14,7 +14,7 @@ use Rattle.writer.proofs.write_windows.Statement.{statement}
 use Rattle.writer.proofs.write_windows.Tie as tie
 
 abbrev Inv-loop : tie.InvT-loop
-Inv-loop out₀ at n part square p₀ kind₀ out p kind = (kind ≤ 4) × (length out ≡ length out₀) × (p ≤ at + 2304 * kind) × (run out p (records n (left part (4 * (n * n)) (kind * (n * n)))) ≡ run out₀ at (records n (windowsOf 0 (take (4 * (n * n)) part))))
+Inv-loop out₀ at n part square p₀ kind₀ out p kind = (kind ≤ 4) × (length out ≡ length out₀) × (p ≤ at + 2304 * kind) × (run out p (records n (left part (4 * (n * n)) (kind * (n * n)))) ≡ run out₀ at (records n (placedOf 0 (take (4 * (n * n)) part))))
 
 abbrev μ-loop : tie.MeasureT-loop
 μ-loop out₀ at n part square p₀ kind₀ out p kind = 4 - kind
@@ -38,7 +38,7 @@ loop-holds c = let a = c .before .args in (
   refl,
   omega arith,
   ap (λ (k : ℕ). run (a .out .now) (a .at) (records (a .n) (left (a .part .now) (4 * (a .n * a .n)) k))) (nothing (a .n * a .n))
-      ∙ ap (λ (k : ℕ). run (a .out .now) (a .at) (records (a .n) (windowsOf 0 (take k (a .part .now))))) (sub-zero (4 * (a .n * a .n))),
+      ∙ ap (λ (k : ℕ). run (a .out .now) (a .at) (records (a .n) (placedOf 0 (take k (a .part .now))))) (sub-zero (4 * (a .n * a .n))),
 )
 
 mul-start : tie.Need-mul-start Inv-loop μ-loop

@@ -1,20 +1,15 @@
 -- The place k names kind, to and from.
-use mathlib.Core.Path.{_≡_, sym}
-use Prim.Native.Nat.{ℕ, _*_, _/_}
+use mathlib.Core.Path.{ap}
+use Prim.Native.Nat.{_/_}
 use native.Mathlib.Omega.{arith}
 use native.Mathlib.Nat.{mod-lt}
-use lib.IntN.{ℤ}
 use Rattle.numbers.proofs.Signs.{passed}
 use Rattle.tables.proofs.Laws.{square}
-use Rattle.windows.proofs.Numbers.{number-kind}
-use Rattle.layout.specs.declared.Window.{Window as Item}
+use Rattle.layout.specs.Records.{fromPlace}
 use Rattle.layout.proofs.Laying.{kind-few}
 use borrow.Author.Needs.{needs}
-use Rattle.layout.proofs.window_at.Statement.{statement}
-use Rattle.layout.proofs.window_at.Tie as tie
-
-same : (k k′ i j : ℕ) (v v′ : ℤ) → k ≡ k′ → v ≡ v′ → _≡_ {A = Item} (record { kind = k; to = i; from = j; w = v }) (record { kind = k′; to = i; from = j; w = v′ })
-same k k′ i j v v′ e f = rw (e, f)
+use Rattle.layout.proofs.from_place.Statement.{statement}
+use Rattle.layout.proofs.from_place.Tie as tie
 
 mul-t4 : tie.Need-mul-t4
 mul-t4 c = omega (arith, square (c .args .n) (c .pre .1))
@@ -47,10 +42,9 @@ cast-t13 : tie.Need-cast-t13
 cast-t13 c = omega (arith, mod-lt (c .args .k) (c .pre .0), c .pre .1)
 
 returns : tie.Need-returns
-returns c = let a = c .args in
-    same _ _ _ _ _ _ (sym (number-kind (a .k / (a .n * a .n)) (kind-few (a .n) (a .k) (c .pre .0) (c .pre .2)))) (passed (a .value) (c .fits .value .sfits))
+returns c = let a = c .args in ap (fromPlace (a .n) (a .k)) (passed (a .value) (c .fits .value .sfits))
 
-pub window-at-spec : {M : Type 1} → statement M
-window-at-spec =
+pub from-place-spec : {M : Type 1} → statement M
+from-place-spec =
     tie.close
     (tie.spec mul-t4 div-t5 cast-t6 div-t7 rem-t8 add-t9 cast-t10 rem-t11 add-t12 cast-t13 returns)

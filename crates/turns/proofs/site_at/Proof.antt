@@ -1,12 +1,12 @@
--- Each branch is a case of `standOf`.
+-- Each branch is a case of `siteOf`.
 use Prim.Native.Nat.{ℕ, _*_, _+_, _≤_}
 use native.Mathlib.Omega.{arith}
 use native.Mathlib.Nat.{mul-le-mul}
 use borrow.Author.Tests.{eq-eqb, ne-eqb}
-use Rattle.turns.specs.Rounds.{standOf}
+use Rattle.turns.specs.Rounds.{siteOf}
 use borrow.Author.Needs.{needs}
-use Rattle.turns.proofs.stand_at.Statement.{statement}
-use Rattle.turns.proofs.stand_at.Tie as tie
+use Rattle.turns.proofs.site_at.Statement.{statement}
+use Rattle.turns.proofs.site_at.Tie as tie
 
 small : (g n : ℕ) → g ≤ 16 → n ≤ 12 → g * n ≤ 192
 small g n h k = mul-le-mul h k
@@ -21,7 +21,7 @@ add-if1 : tie.Need-add-if1
 add-if1 c = search needs
 
 returns : tie.Need-returns
-unfolding standOf
+unfolding siteOf
 returns c = rw (eq-eqb _ _ (c .if1 .taken))
 
 add-t8 : tie.Need-add-t8
@@ -31,8 +31,8 @@ mul-t10 : tie.Need-mul-t10
 mul-t10 c = let s = c .before in omega (arith, small (s .args .g + 1) (s .args .n) (omega arith) (s .pre .2))
 
 returns-2 : tie.Need-returns-2
-unfolding standOf
+unfolding siteOf
 returns-2 c = rw (ne-eqb _ _ (c .if1 .left))
 
-pub stand-at-spec : {M : Type 1} → statement M
-stand-at-spec = tie.close (tie.spec mul-here mul-mark add-if1 returns add-t8 mul-t10 returns-2)
+pub site-at-spec : {M : Type 1} → statement M
+site-at-spec = tie.close (tie.spec mul-here mul-mark add-if1 returns add-t8 mul-t10 returns-2)
