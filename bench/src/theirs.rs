@@ -14,7 +14,7 @@ pub fn reader(sheet: &Measured) -> Question {
     Box::new(
         move || match plain::read(&file, &mut tables, &mut schedule) {
             Ok((n, m, v)) => [0, n as u64, m as u64, v as u64, 0, 0],
-            Err(number) => [u64::from(number), 0, 0, 0, 0, 0],
+            Err((number, place)) => [u64::from(number), place as u64, 0, 0, 0, 0],
         },
     )
 }

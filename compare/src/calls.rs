@@ -23,7 +23,7 @@ pub struct Lent<'a> {
 }
 
 /// The reader: a file; tables, schedule and values to be written. With 0 come n, m
-/// and V.
+/// and V, with a refusal its place.
 pub type Read = fn(&[u8], &mut [i32], &mut [u8], &mut [u64]) -> u32;
 
 /// The writer: a sheet; file and values to be written. With 0 comes the length.

@@ -1,5 +1,8 @@
 //! "Sheets tried by hand": every row of 01's table and what stands below it, by the
-//! proved calls, their answers put into 01's words.
+//! proved calls, their answers put into 01's words; and files that are refused, each at
+//! its place.
+
+mod refused;
 
 use std::fmt;
 
@@ -8,13 +11,14 @@ use second::circuit::Circuit;
 use second::cycle_time::CycleTime;
 use second::file;
 use second::fraction::Fraction;
+use second::limits::MOST_POSITIONS;
 use second::sheet::Sheet;
 use second::text;
 
 use crate::calls::{Calls, VALUES};
 use crate::circuit;
 use crate::difference::hex;
-use crate::held::{Held, CIRCUIT, PLAN};
+use crate::held::{Held, CIRCUIT, PLAN, TABLES};
 use crate::report::PLACES;
 use crate::tried::Tried;
 
@@ -29,9 +33,11 @@ enum Question {
     Written,
     Host(u64, u64),
     Report,
+    /// Read, into so many places for tables and schedule.
+    Read(usize, usize),
 }
 
-use Question::{Ask, Ends, Host, Report, Written};
+use Question::{Ask, Ends, Host, Read, Report, Written};
 
 const FIRST: Drawn = Drawn(1, "0", &["2:1,1=5 3:1,1=8"]);
 const OF_THE_REPORT: Drawn = Drawn(2, "0", &["0:2,1=3 1:2,1=4 2:1,2=2"]);
@@ -43,7 +49,7 @@ const AT_MOST_0: Drawn = Drawn(1, "0", &["3:1,1=0"]);
 const TWO_MODES: Drawn = Drawn(1, "0 1", &["2:1,1=3", "2:1,1=4 3:1,1=6"]);
 
 /// The rows of the table, and then what else is said of a sheet.
-const ROWS: [(Drawn, Question, &str); 17] = [
+const ROWS: [(Drawn, Question, &str); 21] = [
     (FIRST, Ask(5, 1), "plan 0, rounds 0"),
     (FIRST, Ask(4, 1), "circuit (2 1 1 1), total 1"),
     (FIRST, Ask(17, 2), "circuit (3 1 1 1), total 1"),
@@ -69,6 +75,10 @@ const ROWS: [(Drawn, Question, &str); 17] = [
         Report,
         "ends 5/1 open\nlow 2\n0 1 2 1\n2 1 1 2\nplan 1 1\n0 3\n",
     ),
+    (TWO_MODES, Read(8, 2), "0 1 2 2"),
+    (TWO_MODES, Read(TABLES, MOST_POSITIONS), "0 1 2 2"),
+    (TWO_MODES, Read(7, 2), "9 0"),
+    (TWO_MODES, Read(8, 1), "9 0"),
 ];
 
 /// Tries all cases; those of the report only where there is one.
@@ -82,15 +92,21 @@ pub fn run(calls: &Calls) -> Vec<Tried> {
             tried.push(Tried::said(&format!("{name}: {question}"), &said, outcome));
         }
     };
-    for (question, outcome) in [(Ends, "1"), (Host(0, 0), "1"), (Report, "refused 1\n")] {
-        case("an empty file", &[], question, outcome);
-    }
     for (drawn, question, outcome) in ROWS {
         let (name, bytes) = (drawn.to_string(), file::write(&drawn.sheet()));
         case(&name, &bytes, question, outcome);
         if let Ask(p, q) = question {
             case(&name, &bytes, Host(p, q), verdict(outcome));
         }
+    }
+    for refused::File { name, bytes, said } in refused::files() {
+        // with room and without: 9 comes last
+        case(&name, &bytes, Read(TABLES, MOST_POSITIONS), said);
+        case(&name, &bytes, Read(0, 0), said);
+        case(&name, &bytes, Report, &format!("refused {said}\n"));
+        // "the C call stays as it is"
+        let number = said.split(' ').next().unwrap_or_default();
+        case(&name, &bytes, Host(0, 0), number);
     }
     tried
 }
@@ -109,6 +125,7 @@ fn answer(calls: &Calls, file: &[u8], question: Question) -> Result<String, Stri
     match question {
         Host(p, q) => return Ok((calls.host)(file, p, q).to_string()),
         Report => return report(calls, file),
+        Read(tables, schedule) => return Ok(read(calls, file, tables, schedule)),
         Ask(..) | Ends | Written => {}
     }
     let held = match Held::read(calls.read, file) {
@@ -121,6 +138,17 @@ fn answer(calls: &Calls, file: &[u8], question: Question) -> Result<String, Stri
         Ends => ends(calls, &held, &sheet),
         _ => written(calls, &held),
     }
+}
+
+/// The number, and the values that came with it.
+fn read(calls: &Calls, file: &[u8], tables: usize, schedule: usize) -> String {
+    // no value is so large, so that it tells a place that was not written
+    let mut values = [u64::MAX; VALUES];
+    let (mut tables, mut schedule) = (vec![0; tables], vec![0; schedule]);
+    let number = (calls.read)(file, &mut tables, &mut schedule, &mut values);
+    let mut numbers = vec![u64::from(number)];
+    numbers.extend(values.iter().filter(|&&value| value != u64::MAX));
+    joined(&numbers, " ")
 }
 
 fn ask(calls: &Calls, held: &Held, sheet: &Sheet, p: u64, q: u64) -> Result<String, String> {
@@ -236,6 +264,7 @@ impl fmt::Display for Question {
             Ends => f.write_str("Ends"),
             Written => f.write_str("written"),
             Report => f.write_str("report"),
+            Read(tables, schedule) => write!(f, "read into {tables} and {schedule}"),
         }
     }
 }
@@ -253,14 +282,16 @@ mod tests {
     #[test]
     fn right_calls_pass_every_case() {
         assert_eq!(failures(&CALLS), 0);
-        assert_eq!(run(&CALLS).len(), 3 + ROWS.len() + 9);
+        let cases = ROWS.len() + 9 + 4 * refused::files().len();
+        assert_eq!(run(&CALLS).len(), cases);
     }
 
     #[test]
     fn wrong_calls_fail() {
+        let refused = refused::files().len();
         let mut calls = CALLS;
         calls.host = |_, _, _| 0;
-        assert_eq!(failures(&calls), 6);
+        assert_eq!(failures(&calls), 5 + refused);
         calls = CALLS;
         calls.ask = Some(|_, _, _, _, _, _| 10);
         assert_eq!(failures(&calls), 7);
@@ -269,6 +300,27 @@ mod tests {
         assert_eq!(failures(&calls), 6);
         calls = CALLS;
         calls.report = Some(|_, _, _| 0);
-        assert_eq!(failures(&calls), 2);
+        assert_eq!(failures(&calls), 1 + refused);
+    }
+
+    #[test]
+    fn wrong_places_fail() {
+        let refused = refused::files().len();
+        let mut calls = CALLS;
+        calls.read = |file, tables, schedule, values| {
+            let number = (CALLS.read)(file, tables, schedule, values);
+            values[0] += u64::from(number > 0);
+            number
+        };
+        assert_eq!(failures(&calls), 2 + 2 * refused);
+        calls.read = |file, tables, schedule, values| {
+            let number = (CALLS.read)(file, tables, schedule, values);
+            if number > 0 {
+                // no place
+                values[0] = u64::MAX;
+            }
+            number
+        };
+        assert_eq!(failures(&calls), 2 + 2 * refused);
     }
 }

@@ -1,9 +1,10 @@
 //! Holds the proved calls against the second program.
 //!
 //! Both answer the same inputs, and everything that document 01 ("Exact scope and
-//! rules") fixes is compared: the number, the values returned with it, and the whole
-//! later contents of every buffer lent. Where 01 leaves a choice, which is between
-//! valid circuits, the choice made is checked against its definitions instead.
+//! rules") and request E1 of document 02 fix is compared: the number, the values returned
+//! with it, and the whole later contents of every buffer lent. Where 01 leaves a choice,
+//! which is between valid circuits, the choice made is checked against its definitions
+//! instead.
 //!
 //! - [`calls`]: the calls under comparison; [`archive`]: the proved ones.
 //! - [`files`] and [`loans`]: the inputs, by seed and index.
@@ -15,7 +16,8 @@
 //! - [`hand`]: 01's cases; [`stack`]: the stack that calls take; [`tried`]: cases tried
 //!   one by one.
 //! - [`difference`]: what is shown of two answers that differ.
-//! - [`kind`], [`comparison`] and [`tally`]: a run over many inputs, and its summary.
+//! - [`kind`], [`comparison`] and [`tally`]: a run over many inputs, and its summary;
+//!   [`spoilt`]: a run over every cut and change of a sheet's file.
 
 #![deny(unsafe_code)]
 #![warn(missing_docs)]
@@ -36,6 +38,7 @@ pub mod kind;
 pub mod loans;
 pub mod reader;
 pub mod report;
+pub mod spoilt;
 pub mod stack;
 #[cfg(test)]
 mod stub;

@@ -6,6 +6,7 @@
 #![forbid(unsafe_code)]
 
 use std::env;
+use std::fs;
 use std::io;
 use std::process::ExitCode;
 
@@ -13,16 +14,19 @@ use compare::archive;
 use compare::comparison::Comparison;
 use compare::hand;
 use compare::kind::Kind;
+use compare::spoilt;
 use compare::stack;
 use compare::tried::{self, Tried};
 
 const USAGE: &str = "\
 usage: compare KIND SEED COUNT      with the second program, on many inputs
+       compare spoilt SHEET..       reader and report, on every cut and change of sheets
        compare hand                 the sheets tried by hand
        compare stack [KIND KIB]     on the largest sheets, in the stack stated or given
 KIND   reader, writer, ask, ends, host, report; with SEED and COUNT also all that there are
 SEED   the number that settles the inputs
-COUNT  how many inputs of each kind";
+COUNT  how many inputs of each kind
+SHEET  a sheet file";
 
 /// What the arguments ask for.
 struct Order {
@@ -41,6 +45,7 @@ fn main() -> ExitCode {
         ["hand"] => Ok(show(&hand::run(&archive::CALLS))),
         ["stack"] => tried(stack::run(&archive::CALLS)),
         ["stack", kind, kib] => in_stack(kind, kib),
+        ["spoilt", ref sheets @ ..] => on_spoilt(sheets),
         _ => order(&arguments).map(|order| run(&order)),
     };
     done.unwrap_or_else(|trouble| {
@@ -49,9 +54,30 @@ fn main() -> ExitCode {
     })
 }
 
+/// Compares on these sheets, each spoilt in every way.
+fn on_spoilt(sheets: &[&str]) -> Result<ExitCode, String> {
+    if sheets.is_empty() {
+        return Err("no sheet to spoil".to_owned());
+    }
+    for path in sheets {
+        let sheet = fs::read(path).map_err(|error| format!("{path}: {error}"))?;
+        let comparison = |kind| spoilt::Comparison::new(kind, &archive::CALLS);
+        for comparison in Kind::ALL.into_iter().filter_map(comparison) {
+            match comparison.run(&sheet) {
+                Ok(tally) => println!("{path}: {tally}"),
+                Err((spoilt, difference)) => {
+                    println!("{path}, {spoilt}: {}: {difference}", comparison.kind());
+                    return Ok(ExitCode::from(1));
+                }
+            }
+        }
+    }
+    Ok(ExitCode::SUCCESS)
+}
+
 /// Runs the calls of one kind in so much stack.
 fn in_stack(kind: &str, kib: &str) -> Result<ExitCode, String> {
-    let kind = Kind::from_name(kind).ok_or_else(|| format!("no kind \"{kind}\""))?;
+    let kind = named(kind)?;
     let kib = number("stack", kib)? as usize;
     tried(stack::run_one(&archive::CALLS, kind, kib))
 }
@@ -90,11 +116,16 @@ fn comparisons(name: &str) -> Result<Vec<Comparison>, String> {
     if name == "all" {
         return Ok(Kind::ALL.into_iter().filter_map(comparison).collect());
     }
-    let kind = Kind::from_name(name).ok_or_else(|| format!("no kind \"{name}\""))?;
+    let kind = named(name)?;
     match comparison(kind) {
         Some(comparison) => Ok(vec![comparison]),
         None => Err(format!("this program is built without {kind}")),
     }
+}
+
+/// The kind of this name.
+fn named(name: &str) -> Result<Kind, String> {
+    Kind::from_name(name).ok_or_else(|| format!("no kind \"{name}\""))
 }
 
 fn number(what: &str, word: &str) -> Result<u64, String> {

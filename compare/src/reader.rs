@@ -2,7 +2,7 @@
 
 use second::calls;
 use second::random::Random;
-use second::refusal::Refusal;
+use second::refusal::PlacedRefusal;
 use second::sheet::Sheet;
 
 use crate::buffer::Buffer;
@@ -39,7 +39,7 @@ pub fn compare(
     let right = calls::read(&file.bytes, file.table_places, file.schedule_places);
     let checked = match &right {
         Ok(sheet) => is_read(&left, sheet).and_then(|()| goes_back(write, file, &left, random)),
-        Err(refusal) => is_refused(&left, *refusal),
+        Err(refused) => is_refused(&left, *refused),
     };
     checked.map(|()| number).map_err(|what| Difference {
         what,
@@ -59,10 +59,11 @@ fn is_read(left: &Left, sheet: &Sheet) -> Result<(), String> {
     named("schedule", left.schedule.holds(&schedule))
 }
 
-/// "Numbers 1 to 10 return only the number and alter nothing lent."
-fn is_refused(left: &Left, refusal: Refusal) -> Result<(), String> {
-    same_number(left.number, refusal.number())?;
-    named("values", left.values.holds(&[]))?;
+/// "Numbers 1 to 10 return only the number and alter nothing lent", and "the reader's
+/// also return the place" (02, E1).
+fn is_refused(left: &Left, refused: PlacedRefusal) -> Result<(), String> {
+    same_number(left.number, refused.refusal.number())?;
+    named("values", left.values.holds(&[refused.place as u64]))?;
     named("tables", left.tables.holds(&[]))?;
     named("schedule", left.schedule.holds(&[]))
 }
@@ -168,11 +169,87 @@ mod tests {
         }
     }
 
+    /// Document 01's first sheet with a value past its limit, in three groups: 6 at 9.
+    fn refused_at_9() -> File {
+        let mut file = first_sheet(4, 1);
+        file.bytes.splice(9..10, [0x82, 0x89, 0x7a]);
+        file
+    }
+
+    #[test]
+    fn right_places_agree() {
+        let agreed = |file: &File| compared(CALLS.read, CALLS.write, file);
+        assert_eq!(agreed(&refused_at_9()), Ok(6));
+        let mut values = [u64::MAX; VALUES];
+        let number = (CALLS.read)(&refused_at_9().bytes, &mut [0; 4], &mut [0; 1], &mut values);
+        assert_eq!((number, values[..2].to_vec()), (6, vec![9, u64::MAX]));
+    }
+
+    #[test]
+    fn a_wrong_place_is_reported() {
+        type Wrong = (Read, &'static str);
+        let wrong: [Wrong; 5] = [
+            (
+                |file, tables, schedule, values| {
+                    let number = (CALLS.read)(file, tables, schedule, values);
+                    values[0] -= 1;
+                    number
+                },
+                "values: place 0 holds 8, not 9",
+            ),
+            (
+                |file, tables, schedule, values| {
+                    let number = (CALLS.read)(file, tables, schedule, values);
+                    // behind the number, and not where it began
+                    values[0] += 3;
+                    number
+                },
+                "values: place 0 holds 12, not 9",
+            ),
+            (
+                |file, tables, schedule, values| {
+                    let number = (CALLS.read)(file, tables, schedule, values);
+                    // where the record begins, as if it were 7
+                    values[0] = 6;
+                    number
+                },
+                "values: place 0 holds 6, not 9",
+            ),
+            (
+                // no place at all
+                |file, tables, schedule, _| (CALLS.read)(file, tables, schedule, &mut [0; VALUES]),
+                "values: place 0 holds ",
+            ),
+            (
+                |file, tables, schedule, values| {
+                    values[1] = !values[1];
+                    (CALLS.read)(file, tables, schedule, values)
+                },
+                "values: place 1 holds ",
+            ),
+        ];
+        for (read, begins) in wrong {
+            let what = compared(read, CALLS.write, &refused_at_9()).unwrap_err();
+            assert!(what.starts_with(begins), "{what}");
+        }
+    }
+
+    #[test]
+    fn a_place_with_9_is_reported() {
+        let read: Read = |file, tables, schedule, values| {
+            let number = (CALLS.read)(file, tables, schedule, values);
+            values[0] = file.len() as u64;
+            number
+        };
+        let what = compared(read, CALLS.write, &first_sheet(3, 1)).unwrap_err();
+        assert_eq!(what, "values: place 0 holds 14, not 0");
+    }
+
     #[test]
     fn a_refusal_that_writes_is_reported() {
-        let read: Read = |_, tables, _, _| {
+        let read: Read = |file, tables, schedule, values| {
             tables[2] = !tables[2];
-            9
+            (CALLS.read)(file, tables, schedule, values)
         };
         let what = compared(read, CALLS.write, &first_sheet(3, 1)).unwrap_err();
         assert!(what.starts_with("tables: place 2"), "{what}");

@@ -18,10 +18,19 @@ struct Left {
     values: Buffer<u64>,
 }
 
-/// Has a report written and judges it; the number that its first line stands for, or
-/// that of the call, if all is right.
+/// Has a report written, into a buffer of any length, and judges it.
 pub fn compare(report: Report, file: &[u8], random: &mut Random) -> Result<u32, Difference> {
-    let places = places(random);
+    compare_in(places(random), report, file, random)
+}
+
+/// Has a report written into so many places and judges it; the number that its first line
+/// stands for, or that of the call, if all is right.
+pub fn compare_in(
+    places: usize,
+    report: Report,
+    file: &[u8],
+    random: &mut Random,
+) -> Result<u32, Difference> {
     let mut out = Buffer::new(random, places);
     let mut values = Buffer::new(random, VALUES);
     let number = report(file, out.lend(), values.lend());
@@ -77,12 +86,11 @@ fn is_written(left: &Left, file: &[u8]) -> Result<u32, String> {
 
 /// The number that a right report stands for.
 fn number_of(text: &[u8]) -> u32 {
-    match text {
-        [b'e', ..] => 0,
-        [b'n', ..] => 101,
-        // "refused" and a number of one digit
-        [.., digit, _] => u32::from(digit - b'0'),
-        _ => unreachable!("no report has fewer than two bytes"),
+    match text.strip_prefix(b"refused ") {
+        // a number of one digit, and behind it the place
+        Some(refused) => u32::from(refused[0] - b'0'),
+        None if text.starts_with(b"none") => 101,
+        None => 0,
     }
 }
 
@@ -165,6 +173,73 @@ mod tests {
             let what = says(report, &SAMPLE).unwrap_err();
             assert!(what.starts_with(begins), "{what}");
         }
+    }
+
+    /// What is said of a report on the sample with a kind, at 10, that is none.
+    fn says_of_no_kind(report: Report) -> Result<u32, String> {
+        let mut file = SAMPLE;
+        file[10] = 12;
+        says(report, &file)
+    }
+
+    #[test]
+    fn a_wrong_place_is_reported() {
+        assert_eq!(says_of_no_kind(stub::report), Ok(6));
+        assert_eq!(
+            says_of_no_kind(|_, out, values| told("refused 6 10\n", out, values)),
+            Ok(6)
+        );
+        type Wrong = (Report, &'static str);
+        let wrong: [Wrong; 6] = [
+            (
+                |_, out, values| told("refused 6 9\n", out, values),
+                "text: \"refused 6 9\" should be \"refused 6 10\"",
+            ),
+            (
+                |_, out, values| told("refused 6 11\n", out, values),
+                "text: \"refused 6 11\" should be \"refused 6 10\"",
+            ),
+            (
+                |_, out, values| told("refused 6 18\n", out, values),
+                "text: \"refused 6 18\" should be \"refused 6 10\"",
+            ),
+            (
+                |_, out, values| told("refused 6\n", out, values),
+                "text: line 1 is not in the form of a report",
+            ),
+            (
+                |_, out, values| told("refused 10 6\n", out, values),
+                "text: \"refused 10 6\" should be \"refused 6 10\"",
+            ),
+            (
+                |_, out, values| told("refused 6 10 \n", out, values),
+                "text: line 1 is not in the form of a report",
+            ),
+        ];
+        for (report, what) in wrong {
+            assert_eq!(says_of_no_kind(report), Err(what.to_owned()));
+        }
+    }
+
+    /// Answers with this text.
+    fn told(text: &str, out: &mut [u8], values: &mut [u64]) -> u32 {
+        out[..text.len()].copy_from_slice(text.as_bytes());
+        values[0] = text.len() as u64;
+        0
+    }
+
+    #[test]
+    fn a_value_with_9_is_reported() {
+        let too_few = (0..)
+            .find(|&index| compare(stub::report, &[], &mut Random::new(1, index)) == Ok(9))
+            .unwrap();
+        let report: Report = |_, _, values| {
+            // the report's 9 has no place, as the reader's has
+            values[0] = 0;
+            9
+        };
+        let difference = compare(report, &[], &mut Random::new(1, too_few)).unwrap_err();
+        assert!(difference.what.starts_with("values: place 0 holds 0"));
     }
 
     #[test]

@@ -154,6 +154,11 @@ impl Room {
     }
 }
 
+/// A sheet whose file is as long as one can be.
+pub(crate) fn longest() -> Sheet {
+    largest(Wide)
+}
+
 /// The largest sheet of a form.
 fn largest(form: Form) -> Sheet {
     let modes = 0..MOST_MODES as u64;

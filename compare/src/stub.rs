@@ -36,7 +36,10 @@ fn read(file: &[u8], tables: &mut [i32], schedule: &mut [u8], values: &mut [u64]
             put(values, &[sheet.n(), sheet.m(), sheet.v()].map(|n| n as u64));
             0
         }
-        Err(refusal) => refusal.number() as u32,
+        Err(refused) => {
+            put(values, &[refused.place as u64]);
+            refused.refusal.number() as u32
+        }
     }
 }
 

@@ -9,16 +9,22 @@ use crate::ask::{self, Answer};
 use crate::cycle_time::CycleTime;
 use crate::ends::{self, Ends};
 use crate::file;
-use crate::refusal::Refusal;
+use crate::refusal::{PlacedRefusal, Refusal};
 use crate::sheet::{Lent, Sheet};
 
 /// The reader: 1 to 8 as [`file::read`] finds them, "9 last".
 ///
-/// "It needs 4·m·n² and V places, fills exactly these, and returns n, m and V."
-pub fn read(bytes: &[u8], table_places: usize, schedule_places: usize) -> Result<Sheet, Refusal> {
+/// "It needs 4·m·n² and V places, fills exactly these, and returns n, m and V." With a
+/// refusal it returns the place, "0 for 9".
+pub fn read(
+    bytes: &[u8],
+    table_places: usize,
+    schedule_places: usize,
+) -> Result<Sheet, PlacedRefusal> {
     let sheet = file::read(bytes)?;
-    room_for(sheet.tables().len(), table_places)?;
-    room_for(sheet.v(), schedule_places)?;
+    room_for(sheet.tables().len(), table_places)
+        .and_then(|()| room_for(sheet.v(), schedule_places))
+        .map_err(|no_room| no_room.at(0))?;
     Ok(sheet)
 }
 
@@ -55,10 +61,11 @@ pub fn ends(lent: Lent<'_>, first_places: usize, second_places: usize) -> Result
 }
 
 /// The call for a C host: "it hands over the sheet's bytes, p and q, and gets 0,
-/// 100, or the number of the refusal, 1 to 8 first and then 10".
+/// 100, or the number of the refusal, 1 to 8 first and then 10". It "stays as it is"
+/// where the reader returns a place.
 pub fn host(bytes: &[u8], p: u64, q: u64) -> u64 {
     let answer = || -> Result<Answer, Refusal> {
-        let sheet = file::read(bytes)?;
+        let sheet = file::read(bytes).map_err(|refused| refused.refusal)?;
         let time = CycleTime::within_limits(p, q)?;
         Ok(ask::ask(&Net::new(&sheet), time))
     };

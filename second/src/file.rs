@@ -2,7 +2,7 @@
 
 use crate::limits;
 use crate::number::{self, Numbers};
-use crate::refusal::Refusal;
+use crate::refusal::{PlacedRefusal, Refusal};
 use crate::sheet::Sheet;
 use crate::window::Window;
 
@@ -12,63 +12,91 @@ const FORMAT: u64 = 1;
 /// "The longest sheet has 27,684 bytes."
 pub const LONGEST: usize = 27_684;
 
-/// The sheet in a file, or the first refusal from 1 to 8.
+/// The sheet in a file, or the first refusal from 1 to 8 and its place.
 ///
 /// "The reader checks each number as soon as it is read, left to right; 7
 /// follows a record's fourth number; 8 after the last record." That leaves 9,
-/// which only a call with buffers can give.
-pub fn read(bytes: &[u8]) -> Result<Sheet, Refusal> {
+/// which only a call with buffers can give. Places are 02's, E1.
+pub fn read(bytes: &[u8]) -> Result<Sheet, PlacedRefusal> {
     let mut numbers = Numbers::new(bytes);
     let mut sheet = read_head(&mut numbers)?;
     for mode in 0..sheet.m() {
         read_mode(&mut numbers, mode, &mut sheet)?;
     }
-    if numbers.is_empty() {
-        Ok(sheet)
-    } else {
-        Err(Refusal::Surplus)
+    match numbers.surplus() {
+        None => Ok(sheet),
+        // "for 8, the first surplus byte"
+        Some(place) => Err(Refusal::Surplus.at(place)),
     }
 }
 
 /// "Format number 1; n; m; V; V mode numbers from 0."
-fn read_head(numbers: &mut Numbers<'_>) -> Result<Sheet, Refusal> {
-    if numbers.take()? != FORMAT {
-        return Err(Refusal::Format);
-    }
-    let n = limits::events(numbers.take()?)?;
-    let m = limits::modes(numbers.take()?)?;
-    let v = limits::positions(numbers.take()?)?;
+fn read_head(numbers: &mut Numbers<'_>) -> Result<Sheet, PlacedRefusal> {
+    numbers.take().within(format)?;
+    let n = numbers.take().within(limits::events)?;
+    let m = numbers.take().within(limits::modes)?;
+    let v = numbers.take().within(limits::positions)?;
     let mut schedule = Vec::with_capacity(v);
     for _ in 0..v {
-        schedule.push(limits::mode(numbers.take()?, m)?);
+        schedule.push(numbers.take().within(|mode| limits::mode(mode, m))?);
     }
-    Sheet::without_windows(n, m, &schedule)
+    let sheet = Sheet::without_windows(n, m, &schedule);
+    Ok(sheet.expect("each number was checked as it was read"))
+}
+
+fn format(number: u64) -> Result<(), Refusal> {
+    if number == FORMAT {
+        Ok(())
+    } else {
+        Err(Refusal::Format)
+    }
 }
 
 /// "For each mode a count and that many records ... Records strictly rise by
 /// kind, then to, then from."
-fn read_mode(numbers: &mut Numbers<'_>, mode: usize, sheet: &mut Sheet) -> Result<(), Refusal> {
-    let count = limits::count(numbers.take()?, sheet.n())?;
+fn read_mode(
+    numbers: &mut Numbers<'_>,
+    mode: usize,
+    sheet: &mut Sheet,
+) -> Result<(), PlacedRefusal> {
+    let n = sheet.n();
+    let count = numbers.take().within(|count| limits::count(count, n))?;
     let mut before = None;
     for _ in 0..count {
-        let window = read_record(numbers, sheet.n())?;
-        let place = Some(window.place());
-        if before >= place {
-            return Err(Refusal::Rising);
+        let Record { start, window } = read_record(numbers, n)?;
+        let rank = Some(window.rank());
+        if before >= rank {
+            // "for 7, the start of the record"
+            return Err(Refusal::Rising.at(start));
         }
-        before = place;
-        sheet.put(mode, window)?;
+        before = rank;
+        sheet
+            .put(mode, window)
+            .expect("each number was checked as it was read");
     }
     Ok(())
 }
 
+/// A record that was read.
+struct Record {
+    /// The place of its first number, the kind.
+    start: usize,
+    window: Window,
+}
+
 /// "Kind, to, from, value."
-fn read_record(numbers: &mut Numbers<'_>, n: usize) -> Result<Window, Refusal> {
-    Ok(Window {
-        kind: limits::kind(numbers.take()?)?,
-        to: limits::event(numbers.take()?, n)?,
-        from: limits::event(numbers.take()?, n)?,
-        w: limits::value(number::to_value(numbers.take()?))?,
+fn read_record(numbers: &mut Numbers<'_>, n: usize) -> Result<Record, PlacedRefusal> {
+    let kind = numbers.take();
+    let event = |number| limits::event(number, n);
+    let value = |number| limits::value(number::to_value(number));
+    Ok(Record {
+        start: kind.place,
+        window: Window {
+            kind: kind.within(limits::kind)?,
+            to: numbers.take().within(event)?,
+            from: numbers.take().within(event)?,
+            w: numbers.take().within(value)?,
+        },
     })
 }
 

@@ -1,9 +1,9 @@
-//! The second program: every question of document 01, "Exact scope and rules",
-//! answered by methods of its own.
+//! The second program: every question of document 01, "Exact scope and rules", and of
+//! request E1 of document 02, answered by methods of its own.
 //!
 //! It is there to be compared with proved code. So it follows the words of the
-//! document, takes other ways to the answers, and checks what it is told. In
-//! these pages "01" is that document and words in quotes are its words.
+//! documents, takes other ways to the answers, and checks what it is told. In
+//! these pages "01" and "02" are these documents and words in quotes are their words.
 //!
 //! - [`calls`] are the calls of 01 with all their refusals, on the parts below.
 //! - [`mod@file`], [`number`], [`sheet`], [`window`], [`limits`] and [`refusal`]: the

@@ -14,7 +14,6 @@ use second::ends::{self, Ends};
 use second::file;
 use second::generate;
 use second::judge;
-use second::refusal::Refusal;
 use second::report::{self, Report};
 use second::sheet::Sheet;
 use second::text;
@@ -88,7 +87,7 @@ fn run(arguments: &[OsString]) -> Result<Outcome, String> {
             Ok(Outcome::answer(answered(ask_text(&input()?, p, q))))
         }
         ["text"] => {
-            let sheet = read_sheet(&input()?).map_err(|refusal| refusal.to_string())?;
+            let sheet = read_sheet(&input()?)?;
             Ok(Outcome::answer(text::write(&sheet)))
         }
         ["sheet"] => {
@@ -113,15 +112,21 @@ fn run(arguments: &[OsString]) -> Result<Outcome, String> {
 }
 
 /// An answer as it is printed, which a refusal is too.
-fn answered(answer: Result<String, Refusal>) -> String {
-    answer.unwrap_or_else(|refusal| format!("{refusal}\n"))
+fn answered(answer: Result<String, String>) -> String {
+    answer.unwrap_or_else(|refusal| refusal + "\n")
 }
 
-fn read_sheet(bytes: &[u8]) -> Result<Sheet, Refusal> {
-    file::read(report::judged(bytes))
+/// The sheet in a file, or the words and place of its refusal.
+fn read_sheet(bytes: &[u8]) -> Result<Sheet, String> {
+    file::read(report::judged(bytes)).map_err(|refused| refused.to_string())
 }
 
-fn ends_text(bytes: &[u8]) -> Result<String, Refusal> {
+/// The cycle time p/q, or the words of its refusal, which has no place.
+fn cycle_time(p: u64, q: u64) -> Result<CycleTime, String> {
+    CycleTime::within_limits(p, q).map_err(|refusal| refusal.to_string())
+}
+
+fn ends_text(bytes: &[u8]) -> Result<String, String> {
     let sheet = read_sheet(bytes)?;
     Ok(match ends::find(&Net::new(&sheet)) {
         Ends::Found(found) => found.to_string(),
@@ -129,9 +134,9 @@ fn ends_text(bytes: &[u8]) -> Result<String, Refusal> {
     })
 }
 
-fn ask_text(bytes: &[u8], p: u64, q: u64) -> Result<String, Refusal> {
+fn ask_text(bytes: &[u8], p: u64, q: u64) -> Result<String, String> {
     let sheet = read_sheet(bytes)?;
-    let time = CycleTime::within_limits(p, q)?;
+    let time = cycle_time(p, q)?;
     Ok(match ask::ask(&Net::new(&sheet), time) {
         Answer::Accepted { plan, rounds } => {
             let times = report::by_position(&plan, sheet.n());
@@ -145,8 +150,8 @@ fn ask_text(bytes: &[u8], p: u64, q: u64) -> Result<String, Refusal> {
 
 /// Checks the plan on standard input: times parted by any white space.
 fn check_plan(bytes: &[u8], p: u64, q: u64) -> Result<Outcome, String> {
-    let sheet = read_sheet(bytes).map_err(|refusal| refusal.to_string())?;
-    let time = CycleTime::within_limits(p, q).map_err(|refusal| refusal.to_string())?;
+    let sheet = read_sheet(bytes)?;
+    let time = cycle_time(p, q)?;
     let text = String::from_utf8_lossy(&input()?).into_owned();
     let plan: Vec<i64> = text
         .split_whitespace()

@@ -1,11 +1,11 @@
-//! The numbers 1 to 10: why a call gives no answer.
+//! The numbers 1 to 10: why a call gives no answer, and of a file, where.
 
 use std::fmt;
 
 /// A refusal of document 01's table "Numbers a call can answer".
 ///
 /// "Numbers 1 to 10 return only the number and alter nothing lent", so a
-/// refusal carries nothing but itself.
+/// refusal carries nothing but itself; the reader's is a [`PlacedRefusal`].
 #[derive(Clone, Copy, Debug, PartialEq, Eq, PartialOrd, Ord, Hash)]
 pub enum Refusal {
     /// 1: "file stops before the sheet is complete".
@@ -33,9 +33,37 @@ pub enum Refusal {
 }
 
 impl Refusal {
+    /// All refusals, in the order of the table.
+    pub const ALL: [Refusal; 10] = [
+        Refusal::FileStops,
+        Refusal::NumberForm,
+        Refusal::Format,
+        Refusal::Size,
+        Refusal::Schedule,
+        Refusal::Window,
+        Refusal::Rising,
+        Refusal::Surplus,
+        Refusal::Room,
+        Refusal::CycleTime,
+    ];
+
+    /// The refusal of this number.
+    pub fn from_number(number: u64) -> Option<Refusal> {
+        let is_meant = |refusal: &Refusal| refusal.number() == number;
+        Refusal::ALL.into_iter().find(is_meant)
+    }
+
     /// The number of this refusal in the table.
     pub fn number(self) -> u64 {
         self as u64
+    }
+
+    /// This refusal as the reader gives it.
+    pub fn at(self, place: usize) -> PlacedRefusal {
+        PlacedRefusal {
+            refusal: self,
+            place,
+        }
     }
 }
 
@@ -47,26 +75,46 @@ impl fmt::Display for Refusal {
 
 impl std::error::Error for Refusal {}
 
+/// A refusal of the reader and of the report, with its place (02, E1).
+///
+/// The place is the one "at which that number began or is missing" that was read last;
+/// "for 8, the first surplus byte; for 7, the start of the record"; "0 for 9".
+#[derive(Clone, Copy, Debug, PartialEq, Eq, Hash)]
+pub struct PlacedRefusal {
+    /// Why the file is refused.
+    pub refusal: Refusal,
+    /// "The byte place, from 0."
+    pub place: usize,
+}
+
+/// "The report prints it after the number."
+impl fmt::Display for PlacedRefusal {
+    fn fmt(&self, f: &mut fmt::Formatter<'_>) -> fmt::Result {
+        write!(f, "{} {}", self.refusal, self.place)
+    }
+}
+
+impl std::error::Error for PlacedRefusal {}
+
 #[cfg(test)]
 mod tests {
     use super::Refusal;
 
     #[test]
     fn numbers_are_those_of_the_table() {
-        let in_table_order = [
-            Refusal::FileStops,
-            Refusal::NumberForm,
-            Refusal::Format,
-            Refusal::Size,
-            Refusal::Schedule,
-            Refusal::Window,
-            Refusal::Rising,
-            Refusal::Surplus,
-            Refusal::Room,
-            Refusal::CycleTime,
-        ];
-        for (number, refusal) in (1..).zip(in_table_order) {
-            assert_eq!(refusal.number(), number);
+        let numbers = Refusal::ALL.map(Refusal::number);
+        assert_eq!(numbers, [1, 2, 3, 4, 5, 6, 7, 8, 9, 10]);
+        for refusal in Refusal::ALL {
+            assert_eq!(Refusal::from_number(refusal.number()), Some(refusal));
         }
+        for number in [0, 11, 100, u64::MAX] {
+            assert_eq!(Refusal::from_number(number), None);
+        }
+    }
+
+    #[test]
+    fn the_place_is_printed_after_the_number() {
+        assert_eq!(Refusal::Window.to_string(), "refused 6");
+        assert_eq!(Refusal::Window.at(17).to_string(), "refused 6 17");
     }
 }

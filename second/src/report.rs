@@ -9,12 +9,16 @@ use crate::ask::{self, Answer};
 use crate::ends::{self, Contradiction, Ends, Found, High};
 use crate::file;
 use crate::fraction::Fraction;
+use crate::refusal::PlacedRefusal;
 use crate::sheet::Sheet;
 
 pub use self::reading::NoReport;
 
 /// "Of a file over 27,685 bytes the first 27,685 are judged; the answer is the
 /// same": one byte more than the longest sheet has.
+///
+/// The place is the same, too, since no number is cut there: none is read that begins
+/// after 27,681, where the longest sheet has its last value, and four groups settle it.
 pub const MOST_JUDGED: usize = file::LONGEST + 1;
 
 /// The part of a file that is judged.
@@ -25,8 +29,8 @@ pub fn judged(bytes: &[u8]) -> &[u8] {
 /// A report; its display is the exact text.
 #[derive(Clone, Debug, PartialEq, Eq)]
 pub enum Report {
-    /// "A refusal prints "refused" and the number."
-    Refused(u64),
+    /// "A refusal prints "refused" and the number", and the place "after the number".
+    Refused(PlacedRefusal),
     /// The ends, and the plan at low.
     Ends(Found, Plan),
     /// "Without ends: "none", then "first" and "second" with counts and arcs."
@@ -49,7 +53,7 @@ impl Report {
     pub fn new(bytes: &[u8]) -> Report {
         match file::read(judged(bytes)) {
             Ok(sheet) => Report::on(&sheet),
-            Err(refusal) => Report::Refused(refusal.number()),
+            Err(refused) => Report::Refused(refused),
         }
     }
 
@@ -102,7 +106,7 @@ pub fn time_lines(times: &[Vec<i64>]) -> String {
 impl fmt::Display for Report {
     fn fmt(&self, f: &mut fmt::Formatter<'_>) -> fmt::Result {
         match self {
-            Report::Refused(number) => writeln!(f, "refused {number}"),
+            Report::Refused(refused) => writeln!(f, "{refused}"),
             Report::Ends(found, plan) => write!(f, "{found}{plan}"),
             Report::None(none) => write!(f, "{none}"),
         }

@@ -59,8 +59,8 @@ pub struct Window {
 }
 
 impl Window {
-    /// What records are ordered by: "by kind, then to, then from".
-    pub fn place(&self) -> (Kind, usize, usize) {
+    /// What records rise by: "by kind, then to, then from".
+    pub fn rank(&self) -> (Kind, usize, usize) {
         (self.kind, self.to, self.from)
     }
 }

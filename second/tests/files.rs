@@ -1,8 +1,9 @@
-//! The sheet file: refusals in their order, round trips, the longest sheet.
+//! The sheet file: refusals in their order, round trips, the longest sheet. Where a file
+//! is refused has tests of its own, in places.rs.
 
 mod common;
 
-use common::bytes;
+use common::{bytes, longest};
 use second::calls;
 use second::file;
 use second::generate;
@@ -10,21 +11,25 @@ use second::refusal::Refusal;
 use second::report::{judged, MOST_JUDGED};
 use second::sheet::Sheet;
 use second::text;
-use second::window::{Kind, Window};
+
+/// The sheet in a file, or why there is none.
+fn read(bytes: &[u8]) -> Result<Sheet, Refusal> {
+    file::read(bytes).map_err(|refused| refused.refusal)
+}
 
 /// Asserts what the reader makes of each file.
 fn assert_refused(refusal: Refusal, files: &[&str]) {
     for hex in files {
-        assert_eq!(file::read(&bytes(hex)), Err(refusal), "{hex}");
+        assert_eq!(read(&bytes(hex)), Err(refusal), "{hex}");
     }
 }
 
 #[test]
 fn a_file_that_stops_is_1() {
     let whole = bytes("01 02 01 01 00 03 00 02 01 06 01 02 01 08 02 01 02 80 01");
-    assert!(file::read(&whole).is_ok());
+    assert!(read(&whole).is_ok());
     for length in 0..whole.len() {
-        let refused = file::read(&whole[..length]);
+        let refused = read(&whole[..length]);
         assert_eq!(refused, Err(Refusal::FileStops), "{length} bytes");
     }
 }
@@ -92,12 +97,12 @@ fn records_that_do_not_rise_are_7() {
         ("01 01 01", "00 02 02"),
     ] {
         let number = |value: &str| bytes(&format!("{head} {one} 00 {next} {value}"));
-        assert_eq!(file::read(&number("00")), Err(Refusal::Rising));
+        assert_eq!(read(&number("00")), Err(Refusal::Rising));
         // "7 follows a record's fourth number": what is wrong with that number,
         // or its absence, comes first.
-        assert_eq!(file::read(&number("")), Err(Refusal::FileStops));
-        assert_eq!(file::read(&number("80 00")), Err(Refusal::NumberForm));
-        assert_eq!(file::read(&number("81 89 7A")), Err(Refusal::Window));
+        assert_eq!(read(&number("")), Err(Refusal::FileStops));
+        assert_eq!(read(&number("80 00")), Err(Refusal::NumberForm));
+        assert_eq!(read(&number("81 89 7A")), Err(Refusal::Window));
     }
 }
 
@@ -119,27 +124,18 @@ fn short_buffers_are_9_and_come_last() {
     let places = 4 * 3 * 2 * 2;
     assert!(calls::read(&sheet, places, 4).is_ok());
     assert!(calls::read(&sheet, places + 1, 5).is_ok());
-    assert_eq!(calls::read(&sheet, places - 1, 4), Err(Refusal::Room));
-    assert_eq!(calls::read(&sheet, places, 3), Err(Refusal::Room));
+    // "the reader's also return the place, 0 for 9"
+    let no_room = Err(Refusal::Room.at(0));
+    assert_eq!(calls::read(&sheet, places - 1, 4), no_room);
+    assert_eq!(calls::read(&sheet, places, 3), no_room);
     let with_surplus = [&sheet[..], &[0]].concat();
-    assert_eq!(calls::read(&with_surplus, 0, 0), Err(Refusal::Surplus));
+    let surplus = Err(Refusal::Surplus.at(sheet.len()));
+    assert_eq!(calls::read(&with_surplus, 0, 0), surplus);
 }
 
 #[test]
 fn the_longest_sheet_has_27_684_bytes() {
-    let mut sheet = Sheet::without_windows(12, 8, &[7; 16]).unwrap();
-    for mode in 0..8 {
-        for kind in Kind::ALL {
-            for (to, from) in (1..=12).flat_map(|to| (1..=12).map(move |from| (to, from))) {
-                let w = if kind.is_upper() {
-                    1_000_000
-                } else {
-                    -1_000_000
-                };
-                sheet.put(mode, Window { kind, to, from, w }).unwrap();
-            }
-        }
-    }
+    let sheet = longest();
     let bytes = file::write(&sheet);
     assert_eq!(bytes.len(), 27_684);
     assert_eq!(bytes.len(), file::LONGEST);

@@ -164,8 +164,8 @@ fn the_bytes_of_the_first_sheet() {
 
 #[test]
 fn an_empty_file_is_1() {
-    assert_eq!(file::read(&[]), Err(Refusal::FileStops));
-    assert_eq!(Report::new(&[]).to_string(), "refused 1\n");
+    assert_eq!(file::read(&[]), Err(Refusal::FileStops.at(0)));
+    assert_eq!(Report::new(&[]).to_string(), "refused 1 0\n");
     assert_eq!(calls::host(&[], 0, 0), 1);
 }
 

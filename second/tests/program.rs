@@ -57,8 +57,13 @@ fn sample() -> Vec<u8> {
 
 /// The path of a file with the sample, of its own for each test.
 fn sample_file(test: &str) -> String {
-    let path = env::temp_dir().join(format!("second-{test}-{}.sheet", std::process::id()));
-    fs::write(&path, sample()).unwrap();
+    file_of(test, &sample())
+}
+
+/// The path of a file with these bytes, of its own for each name.
+fn file_of(name: &str, bytes: &[u8]) -> String {
+    let path = env::temp_dir().join(format!("second-{name}-{}.sheet", std::process::id()));
+    fs::write(&path, bytes).unwrap();
     path.to_str().unwrap().to_owned()
 }
 
@@ -67,10 +72,10 @@ const REPORT: &str = "ends 5/1 open\nlow 2\n0 1 2 1\n2 1 1 2\nplan 1 1\n0 3\n";
 #[test]
 fn report_and_ends() {
     assert_prints(&["report"], &sample(), REPORT);
-    assert_prints(&["report"], &[], "refused 1\n");
+    assert_prints(&["report"], &[], "refused 1 0\n");
     let ends = "ends 5/1 open\nlow 2\n0 1 2 1\n2 1 1 2\n";
     assert_prints(&["ends"], &sample(), ends);
-    assert_prints(&["ends"], &[2], "refused 3\n");
+    assert_prints(&["ends"], &[2], "refused 3 0\n");
 }
 
 #[test]
@@ -79,7 +84,7 @@ fn ask() {
     let refuted = "refuted 2\n0 1 2 1\n2 1 1 2\n";
     assert_prints(&["ask", "4", "1"], &sample(), refuted);
     assert_prints(&["ask", "4", "0"], &sample(), "refused 10\n");
-    assert_prints(&["ask", "4", "0"], &[1, 13], "refused 4\n");
+    assert_prints(&["ask", "4", "0"], &[1, 13], "refused 4 1\n");
 }
 
 #[test]
@@ -95,7 +100,7 @@ fn text_and_sheet() {
         b"events 2\nmodes 0\n",
         "line 2: there are 1 to 8",
     );
-    assert_trouble(&["text"], &[1, 1], "refused 1\n");
+    assert_trouble(&["text"], &[1, 1], "refused 1 2\n");
 }
 
 #[test]
@@ -110,6 +115,20 @@ fn check() {
     assert_eq!(broken.output, "the plan breaks the window 0 1 2 1\n");
     assert_eq!(check("5", "1", "0 x").code, Some(2));
     assert_eq!(check("5", "0", "0 3").errors, "refused 10\n");
+    fs::remove_file(path).unwrap();
+}
+
+#[test]
+fn a_file_that_is_no_sheet() {
+    let path = file_of("no-sheet", &[1, 2, 9]);
+    assert_trouble(&["check", "5", "1", &path], b"0 3", "refused 4 2\n");
+    assert_prints(&["judge", &path], b"refused 4 2\n", "right\n");
+    let elsewhere = run(&["judge", &path], b"refused 4 1\n");
+    assert_eq!(
+        elsewhere.output,
+        "\"refused 4 1\" should be \"refused 4 2\"\n"
+    );
+    assert_eq!(elsewhere.code, Some(1));
     fs::remove_file(path).unwrap();
 }
 

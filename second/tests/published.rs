@@ -1,14 +1,14 @@
 //! The sheets built from the figures that source document 000 prints.
 
-use std::fs;
+mod common;
 
+use common::published;
 use second::judge;
 use second::report::Report;
 
 /// The first line of the report on a sheet of examples/.
 fn ends_of(name: &str) -> String {
-    let path = format!("{}/../examples/{name}.sheet", env!("CARGO_MANIFEST_DIR"));
-    let sheet = fs::read(path).unwrap();
+    let sheet = published(name);
     let report = Report::new(&sheet).to_string();
     assert_eq!(judge::judge(&sheet, report.as_bytes()), Ok(()));
     report.lines().next().unwrap().to_owned()

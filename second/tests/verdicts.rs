@@ -280,7 +280,7 @@ fn a_report_in_another_form_is_wrong_at_a_line() {
         let wrong = judge_on_sample(&SAMPLE.replace(change, to));
         assert_eq!(wrong, Err(Wrong::Form(NoReport { line })), "{to:?}");
     }
-    let no_text = judge::judge(&[], b"refused 1\n\xff");
+    let no_text = judge::judge(&[], b"refused 1 0\n\xff");
     assert_eq!(no_text, Err(Wrong::Form(NoReport { line: 2 })));
 }
 
@@ -305,9 +305,41 @@ fn a_report_that_says_something_else_is_wrong() {
         let wrong = judge_on_sample(&SAMPLE.replace(change, to));
         assert!(matches!(wrong, Err(Wrong::Circuits(_))), "{to:?}");
     }
-    for other in ["none\nfirst 0\nsecond 0\n", "refused 1\n"] {
+    for other in ["none\nfirst 0\nsecond 0\n", "refused 1 0\n"] {
         let wrong = judge_on_sample(other);
         assert!(matches!(wrong, Err(Wrong::Differs { .. })), "{other:?}");
+    }
+}
+
+#[test]
+fn a_refusal_is_right_with_its_number_and_its_place_alone() {
+    // n is past its limit, at 1
+    let judge = |report: &str| judge::judge(&[1, 13, 1], report.as_bytes());
+    assert_eq!(judge("refused 4 1\n"), Ok(()));
+    for said in ["refused 4 0", "refused 4 2", "refused 4 3", "refused 5 1"] {
+        let wrong = Wrong::Differs {
+            right: "refused 4 1".to_owned(),
+            said: said.to_owned(),
+        };
+        assert_eq!(judge(&format!("{said}\n")), Err(wrong));
+    }
+    for no_report in [
+        "refused 4\n",
+        "refused 4 \n",
+        "refused 4  1\n",
+        "refused 4 01\n",
+        "refused 4 +1\n",
+        "refused 4 -1\n",
+        "refused 4 1",
+        "refused 4 1 \n",
+        "refused 4 1 1\n",
+        "refused 4, 1\n",
+        "refused 0 1\n",
+        "refused 11 1\n",
+        "refused 4 99999999999999999999\n",
+    ] {
+        let wrong = Wrong::Form(NoReport { line: 1 });
+        assert_eq!(judge(no_report), Err(wrong), "{no_report:?}");
     }
 }
 

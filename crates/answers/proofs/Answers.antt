@@ -3,6 +3,7 @@ use mathlib.Core.Path.{_≡_, refl, sym, subst}
 use mathlib.Core.List.{List, [], _∷_}
 use Prim.Native.Nat.{ℕ}
 use native.Mathlib.Omega.{arith}
+use Rattle.numbers.specs.declared.Refusal.{Refusal}
 use Rattle.tables.specs.Answers.{Answer}
 use Rattle.reader.specs.Answers.{answerRead}
 use Rattle.reader.specs.declared.Read.{Read}
@@ -34,6 +35,13 @@ read-given r n m p a b c e x y z =
 
 single : (a n : ℕ) → a ≡ n → _≡_ {A = List ℕ} (a ∷ []) (n ∷ [])
 single a n x = cc
+
+abbrev refusing : ℕ → ℕ → Answered
+refusing k place = record { number = k; count = 1; values = place ∷ 0 ∷ 0 ∷ 0 ∷ 0 ∷ 0 ∷ 0 ∷ 0 ∷ [] }
+
+pub unread-given : (r : Read) (why : Refusal) (k place : ℕ) → r ≡ read.Refused why → k ≡ why .number → place ≡ why .at → Given (refusing k place) (answerRead r)
+unread-given r why k place e x y =
+    subst (λ (s : Read). Given (refusing k place) (answerRead s)) (sym e) (record { numbered = x; valued = single place (why .at) y; few = omega arith; room = refl })
 
 -- 0 with one value, as of a sheet written and of a report
 pub one-given : (w : Answer) (n a : ℕ) → w ≡ record { number = 0; values = n ∷ [] } → a ≡ n → Given (one a) w

@@ -55,10 +55,10 @@ pub fn of_read(read: Read) -> Answered
             count: 3,
             values: [as_value(n), as_value(m), as_value(positions), 0, 0, 0, 0, 0],
         },
-        Read::Refused { number } => Answered {
-            number: answer(number),
-            count: 0,
-            values: [0; 8],
+        Read::Refused { refusal } => Answered {
+            number: answer(refusal.number),
+            count: 1,
+            values: [as_value(refusal.at), 0, 0, 0, 0, 0, 0, 0],
         },
     }
 }

@@ -18,7 +18,7 @@ Answers false s p q r = r ≡ 10
 -- the file's own refusal comes first
 abbrev pub AnswersPart : Part Sheet → ℕ → ℕ → ℕ → Type 0
 AnswersPart (got s next) p q r = Answers (timed p q) s p q r
-AnswersPart (refused k) p q r = r ≡ k
+AnswersPart (refused why) p q r = r ≡ why .number
 
 -- the outcome: the number, by the bytes, p and q
 abbrev pub Verdict : List ℕ → ℕ → ℕ → ℕ → Type 0

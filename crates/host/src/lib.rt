@@ -74,7 +74,7 @@ fn judge(file: &[u8], p: u64, q: u64, tables: &mut [i32], schedule: &mut [u8]) -
 {
     let read = reader::read_sheet(file, tables, schedule);
     match read {
-        Read::Refused { number } => number as u32,
+        Read::Refused { refusal } => refusal.number as u32,
         Read::Done { n, m, positions } => {
             let places = 4 * m * (n * n);
             decide(

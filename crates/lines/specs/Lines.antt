@@ -90,6 +90,6 @@ timesAt s plan h = map (λ i. getD plan (node s h i) 0) (oneTo (s .n))
 abbrev pub planLines : Sheet → ℕ → ℕ → List ℕ → List ℕ
 planLines s q rounds plan = line plan-word (decimal q ∷ decimal rounds ∷ []) ++ each (oneTo (s .positions)) (λ h. numbersLine (timesAt s plan h))
 
--- "A refusal prints "refused" and the number."
-abbrev pub refusedLine : ℕ → List ℕ
-refusedLine k = line refused-word (decimal k ∷ [])
+-- "A refusal prints "refused" and the number."; document 02, E1: the place comes "after the number"
+abbrev pub refusedLine : ℕ → ℕ → List ℕ
+refusedLine k place = line refused-word (decimal k ∷ decimal place ∷ [])

@@ -1,6 +1,6 @@
 // The lines of a report, put one after the other into a buffer: each function puts its text from a place on and gives the place after it.
 // This crate knows how numbers, arcs, circuits, plans and refusals are spelled; it knows no call that gives them.
-// It renders the lines of document 01's "The report".
+// It renders the lines of document 01's "The report", with a refusal's place (document 02, E1).
 ghost use mathlib.Core.List.{_∷_, map};
 ghost use Prim.Native.Nat.{_+_, _*_, _≤_, _<_};
 ghost use lib.ListN.{length, take, drop};
@@ -132,11 +132,12 @@ pub fn put_plan(
     put_positions(out, d, plan, n, positions)
 }
 
-// A refusal.
-pub fn put_refused(out: &mut [u8], number: u8) -> usize
-    ensures { λ r. ⌜ Puts (now (out .entry)) 0 (refusedLine number) r (now (out .exit)) ⌝ }
+// A refusal: its number, and its place in the file.
+pub fn put_refused(out: &mut [u8], number: u8, place: usize) -> usize
+    ensures { λ r. ⌜ Puts (now (out .entry)) 0 (refusedLine number place) r (now (out .exit)) ⌝ }
 {
     let a = text::put_word(out, 0, b"refused");
     let b = put_spaced(out, a, number as u64);
-    text::put_byte(out, b, FEED)
+    let c = put_spaced(out, b, place as u64);
+    text::put_byte(out, c, FEED)
 }

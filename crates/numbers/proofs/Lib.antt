@@ -1,3 +1,4 @@
+pub mod Tests
 pub mod Reading
 pub mod Signs
 pub mod Writing

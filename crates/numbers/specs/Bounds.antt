@@ -5,5 +5,5 @@ use Rattle.numbers.specs.declared.Number.the-variants.{Value, Refused}
 
 -- a value is below m
 abbrev pub Below : ℕ → Number → Type 0
-Below m (Value v next) = v < m
-Below m (Refused k) = Unit
+Below m (Value v began next) = v < m
+Below m (Refused r) = Unit

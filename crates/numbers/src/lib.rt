@@ -1,21 +1,41 @@
 // The numbers of the sheet file: groups of seven bits, and limits as numbers that are not negative.
-// This crate knows one number at a time; it knows no sheet.
-// It renders document 01's "All numbers are in groups of seven bits" and "Value v is written as 2v".
+// This crate knows one number at a time, and the form in which a file is refused; it knows no sheet.
+// It renders document 01's "All numbers are in groups of seven bits" and "Value v is written as 2v", and document 02's E1: a number's place.
 ghost use mathlib.Core.Path.{_≡_};
 ghost use Prim.Native.Nat.{_≤_, _<_};
 ghost use lib.ListN.{length};
 ghost use lib.Seq.{sets};
+ghost use Rattle.numbers.specs.Groups as spec;
 ghost use Rattle.numbers.specs.Groups.{numberAt, numberIn, followed, groups, grouped};
 ghost use Rattle.numbers.specs.Signs.{encoded, decoded, signed};
 ghost use Rattle.numbers.specs.Bounds.{Below};
 
-// What reading one number finds: the number and the place after it, or a refusal (1 or 2).
+// Why a file is refused, and the byte place of it, from 0.
+pub struct Refusal {
+    pub number: u8,
+    pub at: usize,
+}
+
+// What reading one number finds, with the place at which it began or is missing: the number and the place after it, or a refusal (1 or 2).
 pub enum Number {
-    Value { value: usize, next: usize },
-    Refused { number: u8 },
+    Value {
+        value: usize,
+        at: usize,
+        next: usize,
+    },
+    Refused {
+        refusal: Refusal,
+    },
 }
 
 const GROUPS: usize = 4;
+
+// The refusal of this number, at a place of the file.
+pub fn bad(number: u8, at: usize) -> Refusal
+    ensures { λ r. ⌜ r ≡ spec.bad number at ⌝ }
+{
+    Refusal { number, at }
+}
 
 // A byte as a number of the machine's width.
 pub fn wide(byte: u8) -> usize
@@ -24,23 +44,28 @@ pub fn wide(byte: u8) -> usize
     byte as usize
 }
 
-// A group that is marked as followed, with what comes after it.
-fn follow(low: usize, rest: Number) -> Number
+// The group at a place, marked as followed, with what comes after it: the number began there.
+fn follow(first: usize, low: usize, rest: Number) -> Number
     requires { ⌜ (low < 128) × Below 2097152 rest ⌝ }
-    ensures { λ r. ⌜ r ≡ followed low rest ⌝ }
+    ensures { λ r. ⌜ r ≡ followed first low rest ⌝ }
 {
     match rest {
-        Number::Value { value, next } => {
+        Number::Value { value, at: _, next } => {
             if value == 0 {
-                Number::Refused { number: 2 }
+                Number::Refused {
+                    refusal: bad(2, first),
+                }
             } else {
                 Number::Value {
                     value: low + value * 128,
+                    at: first,
                     next,
                 }
             }
         }
-        Number::Refused { number } => Number::Refused { number },
+        Number::Refused { refusal } => Number::Refused {
+            refusal: bad(refusal.number, first),
+        },
     }
 }
 
@@ -50,19 +75,25 @@ fn number_in(file: &[u8], at: usize, left: usize) -> Number
     ensures { λ r. ⌜ r ≡ numberIn left (now (file .entry)) at ⌝ }
 {
     if left == 0 {
-        return Number::Refused { number: 2 };
+        return Number::Refused {
+            refusal: bad(2, at),
+        };
     }
     if file.len() <= at {
-        return Number::Refused { number: 1 };
+        return Number::Refused {
+            refusal: bad(1, at),
+        };
     }
     let byte = wide(file[at]);
+    let next = at + 1;
     if byte < 128 {
         return Number::Value {
             value: byte,
-            next: at + 1,
+            at,
+            next,
         };
     }
-    follow(byte % 128, number_in(file, at + 1, left - 1))
+    follow(at, byte % 128, number_in(file, next, left - 1))
 }
 
 // The number that starts at a place of the file, which may be past its end.

@@ -33,7 +33,7 @@ fn of_told(told: Told) -> Answered
     }
 }
 
-// The reader: 0 with n, m and V, or the number of the refusal.
+// The reader: 0 with n, m and V, or the number of the refusal with its place.
 #[no_mangle]
 pub extern "C" fn probe_read(
     file: &[u8],

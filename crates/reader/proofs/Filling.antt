@@ -5,6 +5,7 @@ use Prim.Native.Nat.{ℕ}
 use native.Mathlib.Omega.{arith}
 use lib.IntN.{ℤ}
 use lib.Seq.{sets}
+use Rattle.numbers.specs.declared.Refusal.{Refusal}
 use Rattle.tables.specs.Sheets.{Sheet}
 use Rattle.sheet.specs.File.{Part, got, refused}
 use Rattle.reader.specs.Steps.{Fills}
@@ -24,22 +25,22 @@ unfolding Fills
 filled (got s next) t₀ s₀ r t v n m positions e h =
     let q : read.Done (s .n) (s .m) (s .positions) ≡ read.Done n m positions = sym (h .0) ∙ e in
     record { s = s; next = next; is = refl; n-is = cc; m-is = cc; positions-is = cc }
-filled (refused k) t₀ s₀ r t v n m positions e h = absurd (never (sym h ∙ e))
+filled (refused why) t₀ s₀ r t v n m positions e h = absurd (never (sym h ∙ e))
   where
-    never : read.Refused k ≡ read.Done n m positions → ⊥
+    never : read.Refused why ≡ read.Done n m positions → ⊥
     never e = let z : _≡_ {A = ℕ} 0 1 = cc in omega arith
 
-pub unfilled : (x : Part Sheet) (t₀ : List ℤ) (s₀ : List ℕ) (r : Read) (t : List ℤ) (v : List ℕ) (k : ℕ) → r ≡ read.Refused k → Fills x t₀ s₀ r t v → x ≡ refused k
+pub unfilled : (x : Part Sheet) (t₀ : List ℤ) (s₀ : List ℕ) (r : Read) (t : List ℤ) (v : List ℕ) (why : Refusal) → r ≡ read.Refused why → Fills x t₀ s₀ r t v → x ≡ refused why
 unfolding Fills
-unfilled (got s next) t₀ s₀ r t v k e h = absurd (never (sym (h .0) ∙ e))
+unfilled (got s next) t₀ s₀ r t v why e h = absurd (never (sym (h .0) ∙ e))
   where
-    never : read.Done (s .n) (s .m) (s .positions) ≡ read.Refused k → ⊥
+    never : read.Done (s .n) (s .m) (s .positions) ≡ read.Refused why → ⊥
     never e = let z : _≡_ {A = ℕ} 0 1 = cc in omega arith
-unfilled (refused j) t₀ s₀ r t v k e h = let q : read.Refused j ≡ read.Refused k = sym h ∙ e in let z : j ≡ k = cc in ap refused z
+unfilled (refused j) t₀ s₀ r t v why e h = let q : read.Refused j ≡ read.Refused why = sym h ∙ e in let z : j ≡ why = cc in ap refused z
 
-pub fills-refused : (x : Part Sheet) (t₀ : List ℤ) (s₀ : List ℕ) (t : List ℤ) (v : List ℕ) (k : ℕ) → x ≡ refused k → Fills x t₀ s₀ (read.Refused k) t v
+pub fills-refused : (x : Part Sheet) (t₀ : List ℤ) (s₀ : List ℕ) (t : List ℤ) (v : List ℕ) (why : Refusal) → x ≡ refused why → Fills x t₀ s₀ (read.Refused why) t v
 unfolding Fills
-fills-refused x t₀ s₀ t v k e = rw e
+fills-refused x t₀ s₀ t v why e = rw e
 
 pub fills-done : (x : Part Sheet) (t₀ : List ℤ) (s₀ : List ℕ) (t : List ℤ) (v : List ℕ) (s : Sheet) (next : ℕ) → x ≡ got s next
     → t ≡ sets t₀ 0 (s .tables) → v ≡ sets s₀ 0 (s .schedule) → Fills x t₀ s₀ (read.Done (s .n) (s .m) (s .positions)) t v

@@ -7,6 +7,7 @@ use borrow.Author.Tests.{le-leb}
 use lib.IntN.{ℤ}
 use lib.ListN.{length, take, drop}
 use lib.Seq.{take-append-seam}
+use Rattle.numbers.specs.declared.Refusal.{Refusal}
 use Rattle.tables.specs.Sheets.{Sheet, sheet, places, refusal}
 use Rattle.tables.specs.Admitted.{Sizes}
 use Rattle.tables.proofs.Laws.{accepted, few-places}
@@ -55,15 +56,15 @@ module _ (file : List ℕ) (tables₀ : List ℤ) (schedule₀ : List ℕ) (long
   done : (x : Part Sheet) → sheetIn file ≡ x → (n m positions : ℕ) (tables : List ℤ) (schedule : List ℕ)
       → reading (answerRead (read.Done n m positions)) tables schedule ≡ readOf x tables₀ schedule₀ → Leaves n m positions tables schedule
   done (got s next) e n m positions tables schedule h = leaves s next e n m positions tables schedule (h ∙ roomy s next e)
-  done (refused k) e n m positions tables schedule h = absurd (omega (arith, ap (λ (r : Reading). length (r .answer .values)) h))
+  done (refused why) e n m positions tables schedule h = absurd (omega (arith, ap (λ (r : Reading). length (r .answer .values)) h))
 
   -- THEOREM: where the reader is done, the first places hold the sheet of the bytes
   pub read-leaves : (r : Read) (n m positions : ℕ) (tables : List ℤ) (schedule : List ℕ) → r ≡ read.Done n m positions → Reads file tables₀ schedule₀ r tables schedule → Leaves n m positions tables schedule
   read-leaves r n m positions tables schedule e h = done (sheetIn file) refl n m positions tables schedule (subst (λ (x : Read). Reads file tables₀ schedule₀ x tables schedule) e h)
 
-  -- THEOREM: where the reader refuses, its number is the file's own refusal
-  pub read-refused : (r : Read) (k : ℕ) (tables : List ℤ) (schedule : List ℕ) → r ≡ read.Refused k → Reads file tables₀ schedule₀ r tables schedule → sheetIn file ≡ refused k
-  read-refused r k tables schedule e h = refused-file file tables₀ schedule₀ k tables schedule (omega arith) (omega arith) (subst (λ (x : Read). Reads file tables₀ schedule₀ x tables schedule) e h)
+  -- THEOREM: where the reader refuses, that is the file's own refusal
+  pub read-refused : (r : Read) (why : Refusal) (tables : List ℤ) (schedule : List ℕ) → r ≡ read.Refused why → Reads file tables₀ schedule₀ r tables schedule → sheetIn file ≡ refused why
+  read-refused r why tables schedule e h = refused-file file tables₀ schedule₀ why tables schedule (omega arith) (omega arith) (subst (λ (x : Read). Reads file tables₀ schedule₀ x tables schedule) e h)
 
 -- that sheet is admitted, and so its places are few
 module _ {file : List ℕ} {tables₀ : List ℤ} {schedule₀ : List ℕ} {long : length tables₀ ≡ 4608} {wide : length schedule₀ ≡ 16} {n m positions : ℕ} {tables : List ℤ} {schedule : List ℕ}

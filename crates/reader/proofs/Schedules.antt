@@ -8,6 +8,7 @@ use lib.ListN.{set}
 use lib.Seq.{sets}
 use Rattle.sheet.proofs.Counting.{one, none}
 use Rattle.numbers.specs.Groups.{numberAt}
+use Rattle.numbers.specs.declared.Refusal.{Refusal}
 use Rattle.numbers.specs.declared.Number.the-variants.{Value, Refused}
 use Rattle.sheet.specs.File.{got, tested, after, andThen, scheduleAt}
 use Rattle.records.specs.Steps.{Walks}
@@ -24,14 +25,14 @@ unfolding scheduleAt
 unroll file m v h p l = ap (λ (k : ℕ). scheduleAt file m k p) (one v h l)
 
 module _ (file : List ℕ) (m v h p : ℕ) (schedule : List ℕ) where
-  pub position-next : h < v → (t a : ℕ) → tested (λ t. ltb t m) 5 (numberAt file p) ≡ Value t a → (r : Ending) (now : List ℕ)
+  pub position-next : h < v → (t began a : ℕ) → tested (λ t. ltb t m) 5 (numberAt file p) ≡ Value t began a → (r : Ending) (now : List ℕ)
       → Walks (storeModes (h + 1)) (scheduleAt file m (v - (h + 1)) a) (set schedule h t) r now → Walks (storeModes h) (scheduleAt file m (v - h) p) schedule r now
-  position-next l t a e r now g =
+  position-next l t began a e r now g =
       rw (unroll file m v h p l ∙ after-value _ _ t a e)
       (grow (storeModes h) (storeModes (h + 1)) t schedule (set schedule h t) (λ rest. ap (λ (k : ℕ). sets (set schedule h t) k rest) (sym (add-one h))) _ r now g)
 
-  pub position-stop : h < v → (j : ℕ) → tested (λ t. ltb t m) 5 (numberAt file p) ≡ Refused j → Walks (storeModes h) (scheduleAt file m (v - h) p) schedule (ending.Refused j) schedule
-  position-stop l j e = stopped (storeModes h) _ schedule schedule j (unroll file m v h p l ∙ after-refused _ _ j e)
+  pub position-stop : h < v → (why : Refusal) → tested (λ t. ltb t m) 5 (numberAt file p) ≡ Refused why → Walks (storeModes h) (scheduleAt file m (v - h) p) schedule (ending.Refused why) schedule
+  position-stop l why e = stopped (storeModes h) _ schedule schedule why (unroll file m v h p l ∙ after-refused _ _ why e)
 
   pub position-done : v ≤ h → Walks (storeModes h) (scheduleAt file m (v - h) p) schedule (ending.At p) schedule
   unfolding Walks scheduleAt

@@ -1,8 +1,10 @@
 // The reader of the sheet file: a byte string is read left to right, each number checked as soon as it is read.
 // This crate knows the file's order and the numbers that reading can answer; what follows the schedule it leaves to `records`, and it knows no plan
 // and no cycle time.
-// It renders document 01's "The sheet file" for the reader.
+// It renders document 01's "The sheet file" for the reader, and document 02's E1: a refusal has its place.
 use numbers::Number;
+use numbers::Refusal;
+use numbers::bad;
 use records::Ending;
 ghost use mathlib.Core.Path.{_≡_};
 ghost use Prim.Native.Nat.{_≤_, _<_};
@@ -13,7 +15,7 @@ ghost use Rattle.records.specs.Steps.{Walks};
 ghost use Rattle.reader.specs.Answers.{Reads};
 ghost use Rattle.reader.specs.Steps.{headPart, Fills};
 
-// What reading a sheet answers: n, m and V, or the number of the refusal (1 to 9).
+// What reading a sheet answers: n, m and V, or the refusal: its number (1 to 9), and its place in the file (0 for 9).
 pub enum Read {
     Done {
         n: usize,
@@ -21,7 +23,7 @@ pub enum Read {
         positions: usize,
     },
     Refused {
-        number: u8,
+        refusal: Refusal,
     },
 }
 
@@ -34,7 +36,7 @@ enum Head {
         next: usize,
     },
     Refused {
-        number: u8,
+        refusal: Refusal,
     },
 }
 
@@ -57,11 +59,11 @@ fn read_schedule(file: &[u8], m: usize, positions: usize, at: usize, schedule: &
     let mut h: usize = 0;
     while h < positions {
         match records::number_within(file, p, 0, m - 1, 5) {
-            Number::Value { value, next } => {
+            Number::Value { value, at: _, next } => {
                 put_byte(schedule, h, value);
                 p = next;
             }
-            Number::Refused { number } => return Ending::Refused { number },
+            Number::Refused { refusal } => return Ending::Refused { refusal },
         }
         h += 1;
     }
@@ -73,31 +75,47 @@ fn read_head(file: &[u8]) -> Head
     ensures { λ r. ⌜ headPart r ≡ countsAt (now (file .entry)) 0 ⌝ }
 {
     let first = records::number_within(file, 0, sheet::FORMAT, sheet::FORMAT, 3);
-    let Number::Value { value: _, next: a } = first else {
+    let Number::Value {
+        value: _,
+        at: _,
+        next: a,
+    } = first
+    else {
         return Head::Refused {
-            number: records::refusal(first),
+            refusal: records::refusal(first),
         };
     };
     let second = records::number_within(file, a, 1, tables::MOST_EVENTS, 4);
-    let Number::Value { value: n, next: b } = second else {
+    let Number::Value {
+        value: n,
+        at: _,
+        next: b,
+    } = second
+    else {
         return Head::Refused {
-            number: records::refusal(second),
+            refusal: records::refusal(second),
         };
     };
     let third = records::number_within(file, b, 1, tables::MOST_MODES, 4);
-    let Number::Value { value: m, next: c } = third else {
+    let Number::Value {
+        value: m,
+        at: _,
+        next: c,
+    } = third
+    else {
         return Head::Refused {
-            number: records::refusal(third),
+            refusal: records::refusal(third),
         };
     };
     let fourth = records::number_within(file, c, 1, tables::MOST_POSITIONS, 4);
     let Number::Value {
         value: positions,
+        at: _,
         next,
     } = fourth
     else {
         return Head::Refused {
-            number: records::refusal(fourth),
+            refusal: records::refusal(fourth),
         };
     };
     Head::Counts {
@@ -118,10 +136,12 @@ fn read_tables(file: &[u8], n: usize, m: usize, at: usize, tables: &mut [i32]) -
             if next == file.len() {
                 Ending::At { next }
             } else {
-                Ending::Refused { number: 8 }
+                Ending::Refused {
+                    refusal: bad(8, next),
+                }
             }
         }
-        Ending::Refused { number } => Ending::Refused { number },
+        Ending::Refused { refusal } => Ending::Refused { refusal },
     }
 }
 
@@ -141,9 +161,9 @@ fn read_rest(
     match read_schedule(file, m, positions, at, schedule) {
         Ending::At { next } => match read_tables(file, n, m, next, tables) {
             Ending::At { next: _ } => Read::Done { n, m, positions },
-            Ending::Refused { number } => Read::Refused { number },
+            Ending::Refused { refusal } => Read::Refused { refusal },
         },
-        Ending::Refused { number } => Read::Refused { number },
+        Ending::Refused { refusal } => Read::Refused { refusal },
     }
 }
 
@@ -158,7 +178,7 @@ fn read_into(file: &[u8], tables: &mut [i32], schedule: &mut [u8]) -> Read
             positions,
             next,
         } => read_rest(file, n, m, positions, next, tables, schedule),
-        Head::Refused { number } => Read::Refused { number },
+        Head::Refused { refusal } => Read::Refused { refusal },
     }
 }
 
@@ -173,11 +193,9 @@ pub fn read_sheet(file: &[u8], tables: &mut [i32], schedule: &mut [u8]) -> Read
     let Read::Done { n, m, positions } = judged else {
         return judged;
     };
-    if tables.len() < tables::KINDS * m * (n * n) {
-        return Read::Refused { number: 9 };
-    }
-    if schedule.len() < positions {
-        return Read::Refused { number: 9 };
+    let places = tables::KINDS * m * (n * n);
+    if !tables::is_roomy(places, tables.len(), positions, schedule.len()) {
+        return Read::Refused { refusal: bad(9, 0) };
     }
     read_into(file, tables, schedule)
 }

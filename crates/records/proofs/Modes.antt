@@ -7,6 +7,7 @@ use native.Mathlib.Nat.{add-mul}
 use lib.IntN.{ℤ}
 use lib.ListN.{length, set, replicate, length-set, length-replicate}
 use lib.Seq.{sets}
+use Rattle.numbers.specs.declared.Refusal.{Refusal}
 use Rattle.tables.specs.Sheets.{noWindow}
 use Rattle.sheet.specs.File.{Part, got, refused, andThen, Placed, recordsAt, modeAt, modesAt, put, laid, tablesOf}
 use Rattle.sheet.proofs.Counting.{one, none}
@@ -44,7 +45,7 @@ mode-walks file n count at part r now h = cases (recordsAt file n count 0 at) re
   where
     cases : (x : Part (List Placed)) → recordsAt file n count 0 at ≡ x → Walks store x (sets part 0 (replicate (4 * (n * n)) noWindow)) r now → Walks (storeMode n) x part r now
     cases (got windows next) e h = (h .0, h .1 ∙ put-sets windows (replicate (4 * (n * n)) noWindow) part (4 * (n * n)) 0 (length-replicate (4 * (n * n)) noWindow) (good file n count 0 at windows next e))
-    cases (refused k) e h = h
+    cases (refused why) e h = h
 
 -- ---- the loop over the modes: t of them are passed
 unroll : (file : List ℕ) (n m t p : ℕ) → t < m → modesAt file n (m - t) p ≡ andThen (modeAt file n p) (λ windows a. andThen (modesAt file n (m - (t + 1)) a) (λ rest b. got (windows ∷ rest) b))
@@ -66,8 +67,8 @@ module _ (file : List ℕ) (n m t p : ℕ) (tables : List ℤ) where
       step : (l : List ℤ) → length l ≡ 4 * (n * n) → t * (4 * (n * n)) + length l ≡ (t + 1) * (4 * (n * n))
       step l e = omega (arith, add-mul t 1 (4 * (n * n)))
 
-  pub mode-stop : t < m → (j : ℕ) → modeAt file n p ≡ refused j → (base : ℕ) (now : List ℤ) → Walks (storeFrom n base) (modesAt file n (m - t) p) tables (ending.Refused j) now
-  mode-stop h j e base now = stopped (storeFrom n base) _ tables now j (unroll file n m t p h ∙ then-refused _ _ j e)
+  pub mode-stop : t < m → (why : Refusal) → modeAt file n p ≡ refused why → (base : ℕ) (now : List ℤ) → Walks (storeFrom n base) (modesAt file n (m - t) p) tables (ending.Refused why) now
+  mode-stop h why e base now = stopped (storeFrom n base) _ tables now why (unroll file n m t p h ∙ then-refused _ _ why e)
 
   pub mode-done : m ≤ t → (base : ℕ) → Walks (storeFrom n base) (modesAt file n (m - t) p) tables (ending.At p) tables
   unfolding Walks modesAt tablesOf

@@ -1,4 +1,4 @@
--- The reader's tests of a number as ranges, and the number of a refusal.
+-- The reader's tests of a number as ranges, and the refusal of a number.
 use mathlib.Core.Path.{_≡_, refl, sym, ap, _∙_}
 use mathlib.Core.Bool.{Bool, true, false}
 use Prim.Native.Nat.{ℕ, _-_, _/_, _%_, _≤_}
@@ -6,11 +6,12 @@ use native.Mathlib.Omega.{arith}
 use borrow.Author.Tests.{ltb-true, leb-true, eqb-true, eqb-false, lt-ltb, le-leb, eq-eqb}
 use lib.Dec.{leb, ltb, eqb}
 use Rattle.numbers.specs.Signs.{decoded, signed}
+use Rattle.numbers.specs.declared.Refusal.{Refusal}
 use Rattle.numbers.specs.declared.Number.{Number}
 use Rattle.numbers.specs.declared.Number.the-variants.{Refused}
 use Rattle.tables.specs.Sheets.{inLimit}
 use Rattle.tables.proofs.Laws.{both, yes}
-use Rattle.records.specs.Steps.{between, refusedNumber}
+use Rattle.records.specs.Steps.{between, refusalIn}
 
 -- two tests that follow from each other
 pub agree : (a b : Bool) → (a ≡ true → b ≡ true) → (b ≡ true → a ≡ true) → a ≡ b
@@ -42,6 +43,6 @@ module _ (v : ℕ) where
           let q = eqb-false (v % 2) 1 e in
           agree (leb v 2000000) (leb (v / 2) 1000000) (λ h. le-leb (v / 2) 1000000 (omega (arith, leb-true v 2000000 h))) (λ h. le-leb v 2000000 (omega (arith, leb-true (v / 2) 1000000 h)))
 
--- the number of a refusal
-pub refused-is : (x : Number) (r k : ℕ) → r ≡ refusedNumber x → x ≡ Refused k → r ≡ k
-refused-is x r k e q = e ∙ ap refusedNumber q
+-- the refusal of a number
+pub refused-is : (x : Number) (r k : Refusal) → r ≡ refusalIn x → x ≡ Refused k → r ≡ k
+refused-is x r k e q = e ∙ ap refusalIn q

@@ -6,6 +6,7 @@ use native.Mathlib.Numerals.{add-one}
 use lib.IntN.{ℤ}
 use lib.ListN.{set, replicate}
 use lib.Seq.{sets}
+use Rattle.numbers.specs.declared.Refusal.{Refusal}
 use Rattle.tables.specs.Sheets.{noWindow}
 use Rattle.sheet.specs.File.{got, refused, andThen, Placed, recordAt, recordsAt, put}
 use Rattle.sheet.proofs.Counting.{one, none}
@@ -30,8 +31,8 @@ module _ (file : List ℕ) (n count k low p : ℕ) (part : List ℤ) where
   unfolding put
   next h w a e r now g = rw (unroll file n count k low p h ∙ then-value _ _ w a e) (grow store store w part (set part (w .place) (w .limit)) (λ xs. refl) _ r now g)
 
-  pub stop : k < count → (j : ℕ) → recordAt file n low p ≡ refused j → Walks store (recordsAt file n (count - k) low p) part (ending.Refused j) part
-  stop h j e = stopped store _ part part j (unroll file n count k low p h ∙ then-refused _ _ j e)
+  pub stop : k < count → (why : Refusal) → recordAt file n low p ≡ refused why → Walks store (recordsAt file n (count - k) low p) part (ending.Refused why) part
+  stop h why e = stopped store _ part part why (unroll file n count k low p h ∙ then-refused _ _ why e)
 
   pub done : count ≤ k → Walks store (recordsAt file n (count - k) low p) part (ending.At p) part
   unfolding Walks recordsAt put

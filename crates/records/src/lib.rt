@@ -1,8 +1,11 @@
 // The records of a sheet file: what follows the schedule, read mode by mode into the tables.
 // This crate knows a number within its limits, a record, a mode's part of the tables and the modes one after the other;
 // it knows no format number, no schedule and no end of the file, so it is the same for every format.
-// It renders document 01's "a count and that many records of kind, to, from, value" and the reader's refusals 6 and 7.
+// It renders document 01's "a count and that many records of kind, to, from, value" and the reader's refusals 6 and 7, with
+// the places of document 02's E1.
 use numbers::Number;
+use numbers::Refusal;
+use numbers::bad;
 ghost use mathlib.Core.Path.{_≡_};
 ghost use Prim.Native.Nat.{_*_, _≤_, _<_};
 ghost use lib.Dec.{leb};
@@ -11,7 +14,7 @@ ghost use lib.Seq.{sets};
 ghost use Rattle.numbers.specs.Groups.{numberAt};
 ghost use Rattle.tables.specs.Sheets.{noWindow};
 ghost use Rattle.sheet.specs.File.{tested, valueAt, recordAt, recordsAt, modeAt, modesAt, put, laid, tablesOf};
-ghost use Rattle.records.specs.Steps.{between, refusedNumber, foundPart, Walks};
+ghost use Rattle.records.specs.Steps.{between, refusalIn, foundPart, Walks};
 
 // A record of a mode: its place in the mode's part and its limit as the file has it.
 enum Found {
@@ -21,42 +24,57 @@ enum Found {
         next: usize,
     },
     Refused {
-        number: u8,
+        refusal: Refusal,
     },
 }
 
 // Where a part of the file ends, or its refusal.
 pub enum Ending {
     At { next: usize },
-    Refused { number: u8 },
+    Refused { refusal: Refusal },
 }
 
 // 1,000,000 as the file has it; -1,000,000 is one less.
 const MOST_CODE: usize = 2000000;
 
-// The number of a refusal.
-pub fn refusal(read: Number) -> u8
-    ensures { λ r. ⌜ r ≡ refusedNumber read ⌝ }
+// The refusal of a number that is one; never asked of a value.
+pub fn refusal(read: Number) -> Refusal
+    ensures { λ r. ⌜ r ≡ refusalIn read ⌝ }
 {
     match read {
-        Number::Value { value: _, next: _ } => 0,
-        Number::Refused { number } => number,
+        Number::Value {
+            value: _,
+            at,
+            next: _,
+        } => bad(0, at),
+        Number::Refused { refusal } => refusal,
     }
 }
 
+// Whether a number lies between two others.
+fn is_between(value: usize, least: usize, most: usize) -> bool
+    ensures { λ r. ⌜ r ≡ between least most value ⌝ }
+{
+    least <= value && value <= most
+}
+
 // The number at a place, refused where it lies outside its limits.
-pub fn number_within(file: &[u8], at: usize, least: usize, most: usize, refused: u8) -> Number
-    ensures { λ r. ⌜ r ≡ tested (between least most) refused (numberAt (now (file .entry)) at) ⌝ }
+pub fn number_within(file: &[u8], at: usize, least: usize, most: usize, number: u8) -> Number
+    ensures { λ r. ⌜ r ≡ tested (between least most) number (numberAt (now (file .entry)) at) ⌝ }
 {
     let read = numbers::number_at(file, at);
-    let Number::Value { value, next: _ } = read else {
+    let Number::Value {
+        value,
+        at: began,
+        next: _,
+    } = read
+    else {
         return read;
     };
-    if value < least {
-        return Number::Refused { number: refused };
-    }
-    if most < value {
-        return Number::Refused { number: refused };
+    if !is_between(value, least, most) {
+        return Number::Refused {
+            refusal: bad(number, began),
+        };
     }
     read
 }
@@ -66,30 +84,46 @@ fn kind_at(file: &[u8], at: usize) -> Number
     ensures { λ r. ⌜ r ≡ tested (λ kind. leb kind 3) 6 (numberAt (now (file .entry)) at) ⌝ }
 {
     let read = numbers::number_at(file, at);
-    let Number::Value { value, next: _ } = read else {
+    let Number::Value {
+        value,
+        at: began,
+        next: _,
+    } = read
+    else {
         return read;
     };
     match value {
         0 | 1 | 2 | 3 => read,
-        4.. => Number::Refused { number: 6 },
+        4.. => Number::Refused {
+            refusal: bad(6, began),
+        },
     }
 }
 
-// The fourth number of a record, whose place in the mode's part is known by now.
-fn read_value(file: &[u8], place: usize, low: usize, at: usize) -> Found
-    ensures { λ r. ⌜ foundPart r ≡ valueAt (now (file .entry)) low place at ⌝ }
+// The fourth number of the record that starts at a byte, whose place in the mode's part is known by now.
+fn read_value(file: &[u8], start: usize, place: usize, low: usize, at: usize) -> Found
+    ensures { λ r. ⌜ foundPart r ≡ valueAt (now (file .entry)) start low place at ⌝ }
 {
     let read = numbers::number_at(file, at);
-    let Number::Value { value: code, next } = read else {
+    let Number::Value {
+        value: code,
+        at: fourth,
+        next,
+    } = read
+    else {
         return Found::Refused {
-            number: refusal(read),
+            refusal: refusal(read),
         };
     };
     if MOST_CODE < code {
-        return Found::Refused { number: 6 };
+        return Found::Refused {
+            refusal: bad(6, fourth),
+        };
     }
     if place < low {
-        return Found::Refused { number: 7 };
+        return Found::Refused {
+            refusal: bad(7, start),
+        };
     }
     Found::Placed {
         place,
@@ -106,31 +140,38 @@ fn read_window(file: &[u8], n: usize, low: usize, at: usize) -> Found
     let first = kind_at(file, at);
     let Number::Value {
         value: kind,
+        at: _,
         next: a,
     } = first
     else {
         return Found::Refused {
-            number: refusal(first),
+            refusal: refusal(first),
         };
     };
     let second = number_within(file, a, 1, n, 6);
-    let Number::Value { value: to, next: b } = second else {
+    let Number::Value {
+        value: to,
+        at: _,
+        next: b,
+    } = second
+    else {
         return Found::Refused {
-            number: refusal(second),
+            refusal: refusal(second),
         };
     };
     let third = number_within(file, b, 1, n, 6);
     let Number::Value {
         value: from,
+        at: _,
         next: c,
     } = third
     else {
         return Found::Refused {
-            number: refusal(third),
+            refusal: refusal(third),
         };
     };
     let place = (kind * n + (to - 1)) * n + (from - 1);
-    read_value(file, place, low, c)
+    read_value(file, at, place, low, c)
 }
 
 // Puts a value at a place of the tables, if they reach that far.
@@ -157,7 +198,7 @@ fn read_windows(file: &[u8], n: usize, count: usize, at: usize, part: &mut [i32]
                 low = place + 1;
                 p = next;
             }
-            Found::Refused { number } => return Ending::Refused { number },
+            Found::Refused { refusal } => return Ending::Refused { refusal },
         }
         k += 1;
     }
@@ -182,9 +223,14 @@ fn read_mode(file: &[u8], n: usize, at: usize, part: &mut [i32]) -> Ending
 {
     let size = tables::KINDS * (n * n);
     let read = number_within(file, at, 0, size, 6);
-    let Number::Value { value: count, next } = read else {
+    let Number::Value {
+        value: count,
+        at: _,
+        next,
+    } = read
+    else {
         return Ending::Refused {
-            number: refusal(read),
+            refusal: refusal(read),
         };
     };
     clear(part, size);
@@ -211,7 +257,7 @@ pub fn read_modes(file: &[u8], n: usize, m: usize, at: usize, tables: &mut [i32]
         let start = least(t * size, tables.len());
         match read_mode(file, n, p, &mut tables[start..]) {
             Ending::At { next } => p = next,
-            Ending::Refused { number } => return Ending::Refused { number },
+            Ending::Refused { refusal } => return Ending::Refused { refusal },
         }
         t += 1;
     }

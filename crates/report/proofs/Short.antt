@@ -187,4 +187,4 @@ none-short s admitted text t =
 pub text-short : (w : Part Sheet) → ((s : Sheet) (next : ℕ) → w ≡ file.got s next → refusal s ≡ 0) → (text : List ℕ) → Tells w text → length text ≤ room
 text-short (file.got s next) h text (inl t) = ends-short s (h s next refl) text t
 text-short (file.got s next) h text (inr t) = none-short s (h s next refl) text t
-text-short (file.refused k) h text e = omega (arith, ap length e, line-two refused-word (decimal k), decimal-most k)
+text-short (file.refused r) h text e = omega (arith, ap length e, line-three refused-word (decimal (r .number)) (decimal (r .at)), decimal-most (r .number), decimal-most (r .at))

@@ -80,7 +80,7 @@ tells-same (file.got s next) h text text′ (inl a) (inl b) = ends-same s (accep
 tells-same (file.got s next) h text text′ (inl a) (inr b) = never-both s text text′ a b
 tells-same (file.got s next) h text text′ (inr a) (inl b) = never-both s text′ text b a
 tells-same (file.got s next) h text text′ (inr a) (inr b) = tt
-tells-same (file.refused k) h text text′ x y = x ∙ sym y
+tells-same (file.refused r) h text text′ x y = x ∙ sym y
 
 -- THEOREM: two reports of the same bytes agree
 pub reports-same : (bytes text text′ : List ℕ) (x : Reports bytes text) (y : Reports bytes text′) → TextsAgree (sheetIn (take judged bytes)) text text′ x y

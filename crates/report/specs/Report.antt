@@ -45,4 +45,4 @@ TextsAgree (file.got s next) text text′ (inl a) (inl b) =
 TextsAgree (file.got s next) text text′ (inl a) (inr b) = ⊥
 TextsAgree (file.got s next) text text′ (inr a) (inl b) = ⊥
 TextsAgree (file.got s next) text text′ (inr a) (inr b) = Unit {0}
-TextsAgree (file.refused k) text text′ x y = text ≡ text′
+TextsAgree (file.refused r) text text′ x y = text ≡ text′

@@ -35,7 +35,7 @@ unfolding inGroups
 spans-none file at = record { here = refl; ends = omega arith }
 
 module _ (file : List ℕ) (f : Bytes file) where
-  pub spans-number : (at v a : ℕ) (numbers : List ℕ) (next : ℕ) → numberAt file at ≡ Value v a → Spans file a (inGroups numbers) next → Spans file at (inGroups (v ∷ numbers)) next
+  pub spans-number : (at v : ℕ) {began : ℕ} (a : ℕ) (numbers : List ℕ) (next : ℕ) → numberAt file at ≡ Value v began a → Spans file a (inGroups numbers) next → Spans file at (inGroups (v ∷ numbers)) next
   unfolding inGroups
   spans-number at v a numbers next e s = spans-append file at (groups v) (inGroups numbers) a next (groups-read file at v a f e) s
 

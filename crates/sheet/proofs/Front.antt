@@ -27,13 +27,13 @@ use Rattle.sheet.proofs.There.{limit-code}
 use Rattle.sheet.proofs.Longest.{two-at-most, three-at-most}
 
 -- what follows is the same where it is the same after whatever was read
-pub after-same : {A : Type 0} (x y : Number) (go to : ℕ → ℕ → Part A) → x ≡ y → ((v next : ℕ) → x ≡ Value v next → go v next ≡ to v next) → after x go ≡ after y to
+pub after-same : {A : Type 0} (x y : Number) (go to : ℕ → ℕ → Part A) → x ≡ y → ((v began next : ℕ) → x ≡ Value v began next → go v next ≡ to v next) → after x go ≡ after y to
 unfolding after
 after-same x y go to e h = cases x refl ∙ ap (λ (z : Number). after z to) e
   where
     cases : (z : Number) → x ≡ z → after x go ≡ after x to
-    cases (Value v next) q = rw q (h v next q)
-    cases (Refused k) q = rw q refl
+    cases (Value v began next) q = rw q (h v began next q)
+    cases (Refused r) q = rw q refl
 
 pub then-same : {A B : Type 0} (x y : Part A) (go to : A → ℕ → Part B) → x ≡ y → ((a : A) (next : ℕ) → x ≡ got a next → go a next ≡ to a next) → andThen x go ≡ andThen y to
 unfolding andThen
@@ -41,7 +41,7 @@ then-same x y go to e h = cases x refl ∙ ap (λ (z : Part _). andThen z to) e
   where
     cases : (z : Part _) → x ≡ z → andThen x go ≡ andThen x to
     cases (got a next) q = rw q (h a next q)
-    cases (refused k) q = rw q refl
+    cases (refused r) q = rw q refl
 
 -- two files that are alike in their first bytes, and have these
 pub record Alike (most : ℕ) (file other : List ℕ) : Type 0 where
@@ -62,23 +62,23 @@ module _ (most : ℕ) (file other : List ℕ) (l : Alike most file other) where
   number-alike at ok k h = ap (tested ok k) (number-in-alike 4 at h)
 
   -- where an accepted number ends
-  number-ends : (at : ℕ) (ok : ℕ → Bool) (k v next : ℕ) → tested ok k (numberAt file at) ≡ Value v next → next ≡ at + length (groups v)
+  number-ends : (at : ℕ) (ok : ℕ → Bool) (k v : ℕ) {began : ℕ} (next : ℕ) → tested ok k (numberAt file at) ≡ Value v began next → next ≡ at + length (groups v)
   number-ends at ok k v next e = groups-read file at v next (l .bytes) (tested-value ok k (numberAt file at) v next e .0) .ends
 
-  short : (at : ℕ) (ok : ℕ → Bool) (k v next : ℕ) → tested ok k (numberAt file at) ≡ Value v next → v < 128 → next ≡ at + 1
+  short : (at : ℕ) (ok : ℕ → Bool) (k v : ℕ) {began : ℕ} (next : ℕ) → tested ok k (numberAt file at) ≡ Value v began next → v < 128 → next ≡ at + 1
   short at ok k v next e h = omega (arith, number-ends at ok k v next e, size-one v h)
 
   -- ---- a record: seven bytes are looked at, and six taken
   window-alike : (n low at : ℕ) → n ≤ 12 → at + 7 ≤ most → recordAt file n low at ≡ recordAt other n low at
   unfolding recordAt valueAt
   window-alike n low at g h =
-      after-same _ _ _ _ (number-alike at (λ kind. leb kind 3) 6 (omega arith)) λ kind a e.
+      after-same _ _ _ _ (number-alike at (λ kind. leb kind 3) 6 (omega arith)) λ kind began a e.
       let p = short at (λ kind. leb kind 3) 6 kind a e (omega (arith, leb-true kind 3 (tested-value _ _ _ _ _ e .1))) in
-      after-same _ _ _ _ (number-alike a (within n) 6 (omega arith)) λ to b f.
+      after-same _ _ _ _ (number-alike a (within n) 6 (omega arith)) λ to began b f.
       let q = short a (within n) 6 to b f (omega (arith, within-is n to (tested-value _ _ _ _ _ f .1) .1)) in
-      after-same _ _ _ _ (number-alike b (within n) 6 (omega arith)) λ from c i.
+      after-same _ _ _ _ (number-alike b (within n) 6 (omega arith)) λ from began c i.
       let r = short b (within n) 6 from c i (omega (arith, within-is n from (tested-value _ _ _ _ _ i .1) .1)) in
-      after-same _ _ _ _ (number-alike c (λ u. inLimit (decoded u)) 6 (omega arith)) λ u d j. refl
+      after-same _ _ _ _ (number-alike c (λ u. inLimit (decoded u)) 6 (omega arith)) λ u began d j. refl
 
   window-ends : (n low at : ℕ) (w : Placed) (next : ℕ) → n ≤ 12 → recordAt file n low at ≡ got w next → next ≤ at + 6
   window-ends n low at w next g e =
@@ -118,7 +118,7 @@ module _ (most : ℕ) (file other : List ℕ) (l : Alike most file other) where
   mode-alike : (n at : ℕ) → n ≤ 12 → at + 3459 ≤ most → modeAt file n at ≡ modeAt other n at
   unfolding modeAt
   mode-alike n at g h =
-      after-same _ _ _ _ (number-alike at (λ count. leb count (4 * (n * n))) 6 (omega arith)) λ count a e.
+      after-same _ _ _ _ (number-alike at (λ count. leb count (4 * (n * n))) 6 (omega arith)) λ count began a e.
       let c = leb-true count (4 * (n * n)) (tested-value _ _ _ _ _ e .1) in
       let s = few n g in
       let z = two-at-most count (omega arith) in
@@ -163,7 +163,7 @@ module _ (most : ℕ) (file other : List ℕ) (l : Alike most file other) where
   unfolding scheduleAt
   schedule-alike m zero at g h = refl
   schedule-alike m (suc positions) at g h =
-      after-same _ _ _ _ (number-alike at (λ t. ltb t m) 5 (omega arith)) λ t a e.
+      after-same _ _ _ _ (number-alike at (λ t. ltb t m) 5 (omega arith)) λ t began a e.
       let p = short at (λ t. ltb t m) 5 t a e (omega (arith, ltb-true t m (tested-value _ _ _ _ _ e .1))) in
       then-same _ _ _ _ (schedule-alike m positions a g (omega arith)) λ rest b f. refl
 
@@ -180,13 +180,13 @@ module _ (most : ℕ) (file other : List ℕ) (l : Alike most file other) where
   counts-alike : 7 ≤ most → countsAt file 0 ≡ countsAt other 0
   unfolding countsAt
   counts-alike h =
-      after-same _ _ _ _ (number-alike 0 (λ format. eqb format 1) 3 (omega arith)) λ format a e.
+      after-same _ _ _ _ (number-alike 0 (λ format. eqb format 1) 3 (omega arith)) λ format began a e.
       let p = short 0 (λ format. eqb format 1) 3 format a e (omega (arith, eqb-true format 1 (tested-value _ _ _ _ _ e .1))) in
-      after-same _ _ _ _ (number-alike a (within 12) 4 (omega arith)) λ n b f.
+      after-same _ _ _ _ (number-alike a (within 12) 4 (omega arith)) λ n began b f.
       let q = short a (within 12) 4 n b f (omega (arith, within-is 12 n (tested-value _ _ _ _ _ f .1) .1)) in
-      after-same _ _ _ _ (number-alike b (within 8) 4 (omega arith)) λ m c i.
+      after-same _ _ _ _ (number-alike b (within 8) 4 (omega arith)) λ m began c i.
       let r = short b (within 8) 4 m c i (omega (arith, within-is 8 m (tested-value _ _ _ _ _ i .1) .1)) in
-      after-same _ _ _ _ (number-alike c (within 16) 4 (omega arith)) λ v d j. refl
+      after-same _ _ _ _ (number-alike c (within 16) 4 (omega arith)) λ v began d j. refl
 
   counts-end : (c : Counts) (next : ℕ) → countsAt file 0 ≡ got c next → next ≡ 4
   counts-end c next e =

@@ -6,6 +6,8 @@ pub mod Places
 pub mod Windows
 pub mod Sheets
 pub mod Parts
+pub mod Runs
+pub mod Faults
 -- laws of lists and counts, for the steps of the crates above
 pub mod Counting
 pub mod Sets
@@ -17,5 +19,5 @@ pub mod There
 pub mod Surplus
 pub mod Longest
 pub mod Front
+pub mod Before
 pub mod Samples
-pub mod Answers

@@ -1,9 +1,9 @@
 -- The definitions, run on document 01's own sheets and on a file for each refusal.
 use mathlib.Core.Path.{_≡_, refl}
 use mathlib.Core.List.{[], _∷_, map}
-use Prim.Native.Nat.{ℕ}
 use lib.IntN.{pos}
-use Rattle.numbers.specs.Groups.{numberIn, group, followed, grouped}
+use Rattle.numbers.specs.Groups.{bad, numberIn, group, followed, grouped}
+use Rattle.numbers.specs.declared.Refusal.{Refusal}
 use Rattle.tables.specs.Sheets.{Sheet, sheet, noWindow}
 use Rattle.sheet.specs.File.{Part, got, refused, tested, after, andThen, rising, valueAt, recordAt, recordsAt, modeAt, modesAt, put, laid, tablesOf, ended, tablesAt, scheduleAt, countsAt, sheetAfter, sheetIn}
 use Rattle.sheet.specs.Written.{inGroups, cell, placedOf, records, modeNumbers, modesNumbers, sheetNumbers, written}
@@ -24,17 +24,18 @@ pub report : sheetIn (1 ∷ 2 ∷ 1 ∷ 1 ∷ 0 ∷ 3 ∷ 0 ∷ 2 ∷ 1 ∷ 6 �
 unfolding sheetIn sheetAfter countsAt scheduleAt tablesAt ended modesAt modeAt recordsAt recordAt valueAt rising tested after andThen put laid tablesOf numberIn group followed
 report = refl
 
--- the number of a file's refusal, and 0 for a sheet
-abbrev numberOf : Part Sheet → ℕ
-numberOf (got s next) = 0
-numberOf (refused k) = k
+-- a file's refusal, and 0 for a sheet
+abbrev refusalOf : Part Sheet → Refusal
+refusalOf (got s next) = bad 0 0
+refusalOf (refused r) = r
 
--- THEOREM: these files have these refusals: one for each refusal that lies in the file, and some for the order of them
-pub refusals : map (λ file. numberOf (sheetIn file)) (
-    -- "An empty file is 1"; a file that stops in a number, and in a record
+-- THEOREM: these files have these refusals, at these places: one for each refusal that lies in the file, and some for the order of them
+pub refusals : map (λ file. refusalOf (sheetIn file)) (
+    -- "An empty file is 1"; a file that stops in a number, in a record, and in a number of a record
     []
     ∷ (129 ∷ [])
     ∷ (1 ∷ 1 ∷ 1 ∷ 1 ∷ 0 ∷ 1 ∷ 2 ∷ 1 ∷ [])
+    ∷ (1 ∷ 1 ∷ 1 ∷ 1 ∷ 0 ∷ 1 ∷ 2 ∷ 1 ∷ 1 ∷ 130 ∷ 137 ∷ [])
     -- not shortest; a fourth group marked as followed, whatever comes after it
     ∷ (129 ∷ 0 ∷ [])
     ∷ (129 ∷ 128 ∷ 128 ∷ 128 ∷ [])
@@ -64,6 +65,14 @@ pub refusals : map (λ file. numberOf (sheetIn file)) (
     ∷ (1 ∷ 1 ∷ 1 ∷ 1 ∷ 0 ∷ 1 ∷ 0 ∷ 1 ∷ 1 ∷ 128 ∷ 137 ∷ 122 ∷ [])
     ∷ (1 ∷ 1 ∷ 1 ∷ 1 ∷ 0 ∷ 1 ∷ 0 ∷ 1 ∷ 1 ∷ 255 ∷ 136 ∷ 122 ∷ [])
     ∷ []
-    ) ≡ 1 ∷ 1 ∷ 1 ∷ 2 ∷ 2 ∷ 2 ∷ 3 ∷ 4 ∷ 4 ∷ 4 ∷ 4 ∷ 5 ∷ 6 ∷ 6 ∷ 6 ∷ 6 ∷ 6 ∷ 6 ∷ 7 ∷ 6 ∷ 8 ∷ 0 ∷ 0 ∷ []
+    ) ≡ bad 1 0 ∷ bad 1 0 ∷ bad 1 8 ∷ bad 1 9
+    ∷ bad 2 0 ∷ bad 2 0 ∷ bad 2 0
+    ∷ bad 3 0
+    ∷ bad 4 1 ∷ bad 4 1 ∷ bad 4 2 ∷ bad 4 3
+    ∷ bad 5 4
+    ∷ bad 6 5 ∷ bad 6 6 ∷ bad 6 7 ∷ bad 6 8 ∷ bad 6 9 ∷ bad 6 9
+    ∷ bad 7 10 ∷ bad 6 13
+    ∷ bad 8 6
+    ∷ bad 0 0 ∷ bad 0 0 ∷ []
 unfolding sheetIn sheetAfter countsAt scheduleAt tablesAt ended modesAt modeAt recordsAt recordAt valueAt rising tested after andThen put laid tablesOf numberIn group followed
 refusals = refl

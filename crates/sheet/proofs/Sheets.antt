@@ -1,6 +1,5 @@
 -- A sheet that was read: what its parts are.
-use mathlib.Core.Path.{_≡_, refl, sym, ap, _∙_}
-use mathlib.Core.Bool.{Bool, true, false, cond}
+use mathlib.Core.Path.{_≡_, sym, ap, _∙_}
 use mathlib.Core.List.{List, [], _∷_}
 use Prim.Native.Nat.{ℕ, zero, suc, _*_, _≤_}
 use native.Mathlib.Omega.{arith}
@@ -11,11 +10,12 @@ use lib.IntN.{ℤ}
 use lib.ListN.{length, length-append}
 use Rattle.numbers.specs.Groups.{numberAt}
 use Rattle.numbers.specs.declared.Number.the-variants.{Value}
+use Rattle.numbers.proofs.Reading.{value-began}
 use Rattle.tables.specs.Sheets.{Sheet, sheet, places}
 use Rattle.tables.proofs.Laws.{within-is}
-use Rattle.sheet.specs.File.{Part, got, refused, Placed, Counts, counts, countsAt, scheduleAt, modesAt, tablesOf, laid, ended, tablesAt, sheetAfter, sheetIn}
+use Rattle.sheet.specs.File.{got, Placed, Counts, counts, countsAt, scheduleAt, modesAt, tablesOf, laid, ended, tablesAt, sheetAfter, sheetIn}
 use Rattle.sheet.proofs.Numbers.{after-got, tested-value}
-use Rattle.sheet.proofs.Following.{then-got}
+use Rattle.sheet.proofs.Following.{passed, then-got}
 use Rattle.sheet.proofs.Windows.{length-laid}
 
 -- ---- n, m and V
@@ -23,10 +23,10 @@ pub record Counted (file : List ℕ) (at : ℕ) (c : Counts) (next : ℕ) : Type
   pub a : ℕ
   pub b : ℕ
   pub d : ℕ
-  pub format-at : numberAt file at ≡ Value 1 a
-  pub n-at : numberAt file a ≡ Value (c .n) b
-  pub m-at : numberAt file b ≡ Value (c .m) d
-  pub positions-at : numberAt file d ≡ Value (c .positions) next
+  pub format-at : numberAt file at ≡ Value 1 at a
+  pub n-at : numberAt file a ≡ Value (c .n) a b
+  pub m-at : numberAt file b ≡ Value (c .m) b d
+  pub positions-at : numberAt file d ≡ Value (c .positions) d next
   pub some-events : 1 ≤ c .n
   pub few-events : c .n ≤ 12
   pub some-modes : 1 ≤ c .m
@@ -56,10 +56,10 @@ counted file at c next h =
       a = f .place;
       b = n .place;
       d = m .place;
-      format-at = fv .0 ∙ ap (λ (k : ℕ). Value k (f .place)) (eqb-true (f .value) 1 (fv .1));
-      n-at = nv .0;
-      m-at = mv .0;
-      positions-at = vv .0 ∙ ap (λ (k : ℕ). Value (v .value) k) (q .1);
+      format-at = value-began file at (fv .0) ∙ ap (λ (k : ℕ). Value k at (f .place)) (eqb-true (f .value) 1 (fv .1));
+      n-at = value-began file (f .place) (nv .0);
+      m-at = value-began file (n .place) (mv .0);
+      positions-at = value-began file (m .place) (vv .0) ∙ ap (λ (k : ℕ). Value (v .value) (m .place) k) (q .1);
       some-events = nw .0;
       few-events = nw .1;
       some-modes = mw .0;
@@ -92,14 +92,10 @@ record Complete (file : List ℕ) (tables : List ℤ) (p : ℕ) (values : List �
 
 complete : (file : List ℕ) (tables : List ℤ) (p : ℕ) (values : List ℤ) (next : ℕ) → ended file tables p ≡ got values next → Complete file tables p values next
 unfolding ended
-complete file tables p values next h = cases (eqb p (length file)) refl h
-  where
-    never : _≡_ {A = Part (List ℤ)} (refused 8) (got values next) → ⊥
-    never e = let z : _≡_ {A = ℕ} 0 1 = cc in omega arith
-
-    cases : (b : Bool) → eqb p (length file) ≡ b → cond b (got tables p) (refused 8) ≡ got values next → Complete file tables p values next
-    cases true q h = let z : p ≡ next = cc in record { is = cc; ends = sym z ∙ eqb-true p (length file) q; same = z }
-    cases false q h = absurd (never h)
+complete file tables p values next h =
+    let q = passed (eqb p (length file)) (got tables p) _ _ _ h in
+    let z : p ≡ next = cc (q .1) in
+    record { is = cc (q .1); ends = sym z ∙ eqb-true _ _ (q .0); same = z }
 
 pub tabled : (file : List ℕ) (n m at : ℕ) (tables : List ℤ) (next : ℕ) → tablesAt file n m at ≡ got tables next → Tabled file n m at tables next
 unfolding tablesAt

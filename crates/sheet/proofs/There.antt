@@ -40,7 +40,7 @@ pub record There {A : Type 0} (file : List ℕ) (x : Part A) (thing : A) (more :
 
 pub record Number (file : List ℕ) (at v : ℕ) (more : List ℕ) : Type 0 where
   pub next : ℕ
-  pub is : numberAt file at ≡ Value v next
+  pub is : numberAt file at ≡ Value v at next
   pub after : Holds file next more
 
 -- the code of a limit in its range

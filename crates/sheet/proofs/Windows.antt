@@ -1,22 +1,22 @@
 -- The records of a mode: what one is, and what they are together.
 use mathlib.Core.Path.{_≡_, refl, sym, ap, _∙_}
-use mathlib.Core.Bool.{Bool, true, false, cond}
+use mathlib.Core.Bool.{true}
 use mathlib.Core.List.{List, [], _∷_}
 use Prim.Native.Nat.{ℕ, zero, suc, _+_, _*_, _≤_, _<_}
 use native.Mathlib.Omega.{arith}
 use native.Mathlib.Nat.{mul-le-mul}
 use borrow.Author.Tests.{leb-true}
-use lib.Dec.{leb}
 use lib.IntN.{ℤ}
 use lib.ListN.{length, set, replicate, length-set, length-replicate}
 use Rattle.numbers.specs.Groups.{numberAt}
 use Rattle.numbers.specs.Signs.{decoded}
 use Rattle.numbers.specs.declared.Number.the-variants.{Value}
+use Rattle.numbers.proofs.Reading.{value-began}
 use Rattle.tables.specs.Sheets.{inLimit, noWindow}
 use Rattle.tables.proofs.Laws.{within-is}
-use Rattle.sheet.specs.File.{Part, got, refused, Placed, placed, inMode, rising, valueAt, recordAt, recordsAt, put, laid}
+use Rattle.sheet.specs.File.{got, Placed, placed, inMode, rising, valueAt, recordAt, recordsAt, put, laid}
 use Rattle.sheet.proofs.Numbers.{after-got, tested-value}
-use Rattle.sheet.proofs.Following.{then-got}
+use Rattle.sheet.proofs.Following.{passed, then-got}
 use Rattle.sheet.proofs.Places.{Fit, in-part}
 
 -- a record that was read: its four numbers, where each stands, and what they say
@@ -28,10 +28,10 @@ pub record Recorded (file : List ℕ) (n low at : ℕ) (w : Placed) (next : ℕ)
   pub a : ℕ
   pub b : ℕ
   pub c : ℕ
-  pub kind-at : numberAt file at ≡ Value kind a
-  pub to-at : numberAt file a ≡ Value to b
-  pub from-at : numberAt file b ≡ Value from c
-  pub code-at : numberAt file c ≡ Value code next
+  pub kind-at : numberAt file at ≡ Value kind at a
+  pub to-at : numberAt file a ≡ Value to a b
+  pub from-at : numberAt file b ≡ Value from b c
+  pub code-at : numberAt file c ≡ Value code c next
   pub fit : Fit n kind to from
   pub limited : inLimit (decoded code) ≡ true
   pub rises : low ≤ inMode n kind to from
@@ -42,16 +42,9 @@ pub record Risen (low p : ℕ) (v : ℤ) (next : ℕ) (w : Placed) (end : ℕ) :
   pub is : w ≡ placed p v
   pub ends : end ≡ next
 
-risen : (low p : ℕ) (v : ℤ) (next : ℕ) (w : Placed) (end : ℕ) → rising low p v next ≡ got w end → Risen low p v next w end
+risen : (start low p : ℕ) (v : ℤ) (next : ℕ) (w : Placed) (end : ℕ) → rising start low p v next ≡ got w end → Risen low p v next w end
 unfolding rising
-risen low p v next w end h = cases (leb low p) refl h
-  where
-    never : _≡_ {A = Part Placed} (refused 7) (got w end) → ⊥
-    never e = let z : _≡_ {A = ℕ} 0 1 = cc in omega arith
-
-    cases : (b : Bool) → leb low p ≡ b → cond b (got (placed p v) next) (refused 7) ≡ got w end → Risen low p v next w end
-    cases true q h = record { above = leb-true low p q; is = cc; ends = cc }
-    cases false q h = absurd (never h)
+risen start low p v next w end h = let q = passed _ _ _ _ _ h in record { above = leb-true _ _ (q .0); is = cc (q .1); ends = cc (q .1) }
 
 pub recorded : (file : List ℕ) (n low at : ℕ) (w : Placed) (next : ℕ) → recordAt file n low at ≡ got w next → Recorded file n low at w next
 unfolding recordAt valueAt
@@ -60,7 +53,7 @@ recorded file n low at w next h =
     let t = after-got _ _ _ _ (k .rest) in
     let f = after-got _ _ _ _ (t .rest) in
     let u = after-got _ _ _ _ (f .rest) in
-    let r = risen _ _ _ _ _ _ (u .rest) in
+    let r = risen _ _ _ _ _ _ _ (u .rest) in
     let kv = tested-value _ _ _ _ _ (k .is) in
     let tv = tested-value _ _ _ _ _ (t .is) in
     let fv = tested-value _ _ _ _ _ (f .is) in
@@ -75,10 +68,10 @@ recorded file n low at w next h =
       a = k .place;
       b = t .place;
       c = f .place;
-      kind-at = kv .0;
-      to-at = tv .0;
-      from-at = fv .0;
-      code-at = uv .0 ∙ ap (λ (e : ℕ). Value (u .value) e) (sym (r .ends));
+      kind-at = value-began file at (kv .0);
+      to-at = value-began file (k .place) (tv .0);
+      from-at = value-began file (t .place) (fv .0);
+      code-at = value-began file (f .place) (uv .0) ∙ ap (λ (e : ℕ). Value (u .value) (f .place) e) (sym (r .ends));
       fit = record { kinds = leb-true _ _ (kv .1); some-to = tw .0; few-to = tw .1; some-from = fw .0; few-from = fw .1 };
       limited = uv .1;
       rises = r .above;

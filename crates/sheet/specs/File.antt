@@ -1,37 +1,39 @@
 -- The sheet file as it is read (document 01, "The sheet file", "Numbers a call can answer").
 -- "Order: format number 1; n; m; V; V mode numbers from 0; then for each mode a count and that many records of kind, to, from, value."
 -- "The reader checks each number as soon as it is read, left to right; 7 follows a record's fourth number; 8 after the last record".
+-- Document 02, E1: the place of a number just read goes "with refusals 1 to 8 (for 8, the first surplus byte; for 7, the start of the record)".
 use Prim.Native.Nat.{ℕ, zero, suc, _+_, _-_, _*_}
 use mathlib.Core.Bool.{Bool, cond}
 use mathlib.Core.List.{List, [], _∷_, _++_}
 use lib.Dec.{leb, ltb, eqb}
 use lib.ListN.{length, set, replicate}
 use lib.IntN.{ℤ}
-use Rattle.numbers.specs.Groups.{numberAt}
+use Rattle.numbers.specs.Groups.{bad, numberAt}
 use Rattle.numbers.specs.Signs.{decoded}
+use Rattle.numbers.specs.declared.Refusal.{Refusal}
 use Rattle.numbers.specs.declared.Number.{Number}
 use Rattle.numbers.specs.declared.Number.the-variants.{Value, Refused}
 use Rattle.tables.specs.Sheets.{Sheet, sheet, noWindow, inLimit, within}
 
--- a part of the file: what was read and the place after it, or the number of the refusal
+-- a part of the file: what was read and the place after it, or the refusal with its place
 pub data Part (A : Type 0) : Type 0 where
   got : A → ℕ → Part A
-  refused : ℕ → Part A
+  refused : Refusal → Part A
 
--- "checks each number as soon as it is read": the number, or the refusal k where the test fails
+-- "checks each number as soon as it is read": the number, or the refusal k, at its place, where the test fails
 unfoldable pub tested : (ℕ → Bool) → ℕ → Number → Number
-tested ok k (Value v next) = cond (ok v) (Value v next) (Refused k)
-tested ok k (Refused j) = Refused j
+tested ok k (Value v began next) = cond (ok v) (Value v began next) (Refused (bad k began))
+tested ok k (Refused r) = Refused r
 
 -- "left to right": what follows a number, with its value and the place after it
 unfoldable pub after : {A : Type 0} → Number → (ℕ → ℕ → Part A) → Part A
-after (Value v next) go = go v next
-after (Refused k) go = refused k
+after (Value v began next) go = go v next
+after (Refused r) go = refused r
 
 -- "left to right": what follows a part, with what it holds and the place after it
 unfoldable pub andThen : {A B : Type 0} → Part A → (A → ℕ → Part B) → Part B
 andThen (got a next) go = go a next
-andThen (refused k) go = refused k
+andThen (refused r) go = refused r
 
 -- a limit at its place in a mode's part of the tables
 pub record Placed : Type 0 where
@@ -46,15 +48,16 @@ placed p v = record { place = p; limit = v }
 abbrev pub inMode : ℕ → ℕ → ℕ → ℕ → ℕ
 inMode n kind to from = (kind * n + (to - 1)) * n + (from - 1)
 
--- 7, "records not strictly rising": by kind, then to, then from is by place, and `low` is the first place above the record before
-unfoldable pub rising : ℕ → ℕ → ℤ → ℕ → Part Placed
-rising low p v next = cond (leb low p) (got (placed p v) next) (refused 7)
+-- 7, "records not strictly rising": by kind, then to, then from is by place in the mode's part, and `low` is the first such place above the record before.
+-- "for 7, the start of the record"
+unfoldable pub rising : ℕ → ℕ → ℕ → ℤ → ℕ → Part Placed
+rising start low p v next = cond (leb low p) (got (placed p v) next) (refused (bad 7 start))
 
--- the fourth number of a record, whose first three give its place. 6: "value past its limit"; "7 follows a record's fourth number"
-unfoldable pub valueAt : List ℕ → ℕ → ℕ → ℕ → Part Placed
-valueAt file low p at =
+-- the fourth number of the record that starts at `start`, whose first three give its place in the mode's part. 6: "value past its limit"; "7 follows a record's fourth number"
+unfoldable pub valueAt : List ℕ → ℕ → ℕ → ℕ → ℕ → Part Placed
+valueAt file start low p at =
     after (tested (λ u. inLimit (decoded u)) 6 (numberAt file at)) λ u next.
-    rising low p (decoded u) next
+    rising start low p (decoded u) next
 
 -- a record, "kind, to, from, value". 6: "kind above 3, event not 1..n"
 unfoldable pub recordAt : List ℕ → ℕ → ℕ → ℕ → Part Placed
@@ -62,7 +65,7 @@ recordAt file n low at =
     after (tested (λ kind. leb kind 3) 6 (numberAt file at)) λ kind a.
     after (tested (within n) 6 (numberAt file a)) λ to b.
     after (tested (within n) 6 (numberAt file b)) λ from c.
-    valueAt file low (inMode n kind to from) c
+    valueAt file at low (inMode n kind to from) c
 
 -- so many records, the first of them at or above the place `low`
 unfoldable pub recordsAt : List ℕ → ℕ → ℕ → ℕ → ℕ → Part (List Placed)
@@ -100,9 +103,9 @@ unfoldable pub tablesOf : ℕ → List (List Placed) → List ℤ
 tablesOf n [] = []
 tablesOf n (windows ∷ rest) = laid (4 * (n * n)) windows ++ tablesOf n rest
 
--- "Nothing follows." 8: "bytes after the sheet"
+-- "Nothing follows." 8: "bytes after the sheet"; "for 8, the first surplus byte"
 unfoldable pub ended : List ℕ → List ℤ → ℕ → Part (List ℤ)
-ended file tables next = cond (eqb next (length file)) (got tables next) (refused 8)
+ended file tables next = cond (eqb next (length file)) (got tables next) (refused (bad 8 next))
 
 -- all that follows the schedule, which ends the file
 unfoldable pub tablesAt : List ℕ → ℕ → ℕ → ℕ → Part (List ℤ)

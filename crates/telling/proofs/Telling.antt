@@ -15,6 +15,7 @@ use Rattle.theory.specs.Ends.{High, Lowest, LowShown, at-zero, above-zero}
 use Rattle.theory.proofs.Fractions.{lowest-least, low-works}
 use Rattle.theory.proofs.Slopes.{zero-low}
 use Rattle.theory.proofs.Sums.{ups-few}
+use Rattle.numbers.specs.declared.Refusal.{Refusal}
 use Rattle.tables.specs.Sheets.{Sheet, refusal}
 use Rattle.tables.specs.Answers.{Answer}
 use Rattle.tables.specs.Admitted.{Admitted}
@@ -135,8 +136,8 @@ module _ (s : Sheet) where
 -- ---- the calls' answers
 
 -- the reader's
-pub tells-refused : (bytes : List ℕ) (k : ℕ) → sheetIn bytes ≡ file.refused k → {o out : List ℕ} {next : ℕ} → Puts o 0 (refusedLine k) next out → TextStands (Tells (sheetIn bytes)) o next out
-tells-refused bytes k e x = record { text = refusedLine k; says = subst (λ (w : Part Sheet). Tells w (refusedLine k)) (sym e) refl; puts = x }
+pub tells-refused : (bytes : List ℕ) (r : Refusal) → sheetIn bytes ≡ file.refused r → {o out : List ℕ} {next : ℕ} → Puts o 0 (refusedLine (r .number) (r .at)) next out → TextStands (Tells (sheetIn bytes)) o next out
+tells-refused bytes r e x = record { text = refusedLine (r .number) (r .at); says = subst (λ (w : Part Sheet). Tells w (refusedLine (r .number) (r .at))) (sym e) refl; puts = x }
 
 pub tells-got : (bytes : List ℕ) (s : Sheet) (place : ℕ) → sheetIn bytes ≡ file.got s place → {o out : List ℕ} {next : ℕ} → TextStands (λ text. TellsEnds s text ⊎ TellsNone s text) o next out → TextStands (Tells (sheetIn bytes)) o next out
 tells-got bytes s place e x = record { text = x .text; says = subst (λ (w : Part Sheet). Tells w (x .text)) (sym e) (x .says); puts = x .puts }

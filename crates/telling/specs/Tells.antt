@@ -39,4 +39,4 @@ module _ (s : Sheet) where
 -- the text, by what the file was read as
 abbrev pub Tells : Part Sheet → List ℕ → Type 0
 Tells (file.got s next) text = TellsEnds s text ⊎ TellsNone s text
-Tells (file.refused k) text = text ≡ refusedLine k
+Tells (file.refused r) text = text ≡ refusedLine (r .number) (r .at)

@@ -1,6 +1,6 @@
 // From a file's bytes to the text of its report: each answer is asked for in room of the work's own, and handed to its lines.
 // This crate knows which call answers what; it knows no spelling, and not how much of a file is judged.
-// It renders document 01's "The report".
+// It renders document 01's "The report", and document 02's E1 in it.
 use ask::Asked;
 use endings::put_found;
 use endings::put_none;
@@ -167,7 +167,7 @@ fn tell_read(file: &[u8], tables: &mut [i32], schedule: &mut [u8], out: &mut [u8
 {
     let read = reader::read_sheet(file, tables, schedule);
     match read {
-        Read::Refused { number } => put_refused(out, number),
+        Read::Refused { refusal } => put_refused(out, refusal.number, refusal.at),
         Read::Done { n, m, positions } => {
             let places = 4 * m * (n * n);
             tell_admitted(

@@ -9,7 +9,6 @@ use lib.Dec.{leb, eqb}
 use lib.ListN.{length, take, drop}
 use lib.Seq.{take-at}
 use Rattle.tables.specs.Sheets.{Sheet, exact, refusal}
-use Rattle.sheet.proofs.Answers.{filled}
 use Rattle.sheet.specs.File.{got, sheetIn}
 use Rattle.sheet.specs.Written.{written}
 use Rattle.sheet.proofs.There.{read-written}
@@ -32,11 +31,11 @@ done-written s out₀ k out e = judged (eqb (refusal s) 0) refl e
         let v : k ∷ [] ≡ length (written s) ∷ [] = ap (λ (w : Writing). w .answer .values) e in
         let l : k ≡ length (written s) = cc in
         record { admitted = a; long = l; fits = omega (arith, leb-true (length (written s)) (length out₀) q); bytes = ap (λ (w : Writing). w .out) e ∙ ap (λ (j : ℕ). written s ++ drop j out₀) (sym l) }
-    room a false q e = absurd (filled k [] (ap (λ (w : Writing). w .answer .values) e))
+    room a false q e = absurd (omega (arith, ap (λ (w : Writing). length (w .answer .values)) e))
 
     judged : (b : Bool) → eqb (refusal s) 0 ≡ b → writing (record { number = 0; values = k ∷ [] }) out ≡ cond b (writeInto (written s) out₀) (unwritten (refusal s) out₀) → Wrote s out₀ k out
     judged true q e = room (eqb-true _ _ q) (leb (length (written s)) (length out₀)) refl e
-    judged false q e = absurd (filled k [] (ap (λ (w : Writing). w .answer .values) e))
+    judged false q e = absurd (omega (arith, ap (λ (w : Writing). length (w .answer .values)) e))
 
 -- THEOREM: reading what the writer left gives the sheet back, without its surplus
 pub read-back : (s : Sheet) (out₀ : List ℕ) (k : ℕ) (out : List ℕ) → Writes s out₀ (wrote.Done k) out → sheetIn (take k out) ≡ got (exact s) k

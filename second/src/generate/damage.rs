@@ -12,7 +12,7 @@ use super::sheets::longest;
 type Damage = fn(&mut Random, &Sheet) -> Vec<u8>;
 
 /// The families by name.
-pub(super) const FAMILIES: [(&str, Damage); 15] = [
+pub(super) const FAMILIES: [(&str, Damage); 16] = [
     ("truncated", truncated),
     ("surplus", surplus),
     ("flipped bits", flipped_bits),
@@ -27,6 +27,7 @@ pub(super) const FAMILIES: [(&str, Damage); 15] = [
     ("other count", other_count),
     ("over-long", over_long),
     ("longest, drawn out", longest_drawn_out),
+    ("longest, followed", longest_followed),
     ("noise", noise),
 ];
 
@@ -194,6 +195,15 @@ fn longest_drawn_out(random: &mut Random, _: &Sheet) -> Vec<u8> {
     }
     bytes.push(last_group);
     let more = random.pick(&[0, 0, 1, 2, 50]);
+    append_any(random, &mut bytes, more);
+    bytes
+}
+
+/// The longest sheet and bytes after it, of which the first is the last that is judged:
+/// no place is greater.
+fn longest_followed(random: &mut Random, _: &Sheet) -> Vec<u8> {
+    let mut bytes = file::write(&longest(random));
+    let more = random.pick(&[1, 2, 3, 50, 5000]);
     append_any(random, &mut bytes, more);
     bytes
 }

@@ -6,6 +6,7 @@ use std::str::{FromStr, Lines};
 use crate::arc::ArcName;
 use crate::ends::{Contradiction, Found, High};
 use crate::fraction::Fraction;
+use crate::refusal::Refusal;
 
 use super::{Plan, Report};
 
@@ -58,7 +59,10 @@ impl<'a> Reader<'a> {
     fn report(&mut self) -> Option<Report> {
         let words = self.words()?;
         match words[..] {
-            ["refused", number] => Some(Report::Refused(number.parse().ok()?)),
+            ["refused", number, place] => {
+                let refusal = Refusal::from_number(number.parse().ok()?)?;
+                Some(Report::Refused(refusal.at(place.parse().ok()?)))
+            }
             ["none"] => Some(Report::None(Contradiction {
                 first: self.circuit("first")?,
                 second: self.circuit("second")?,

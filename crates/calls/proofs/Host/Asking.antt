@@ -7,6 +7,7 @@ use mathlib.Core.List.{List}
 use Prim.Native.Nat.{ℕ}
 use native.Mathlib.Omega.{arith}
 use lib.ListN.{length}
+use Rattle.numbers.specs.declared.Refusal.{Refusal}
 use Rattle.tables.specs.Sheets.{Sheet, refusal, unless}
 use Rattle.tables.specs.Answers.{Answer}
 use Rattle.tables.proofs.Answers.{number-same}
@@ -39,8 +40,8 @@ module _ (s : Sheet) (p q : ℕ) (plan₀ circuit₀ : List ℕ) (admitted : ref
   answers long wide a plan circuit o = by-time (timed p q) a plan circuit (refusals long wide) o
 
 -- "1 to 8 first": a refused file has its own number, whatever p and q are
-pub refused-first : (file : List ℕ) (p q k : ℕ) → sheetIn file ≡ refused k → Verdict file p q k
-refused-first file p q k e = subst (λ (x : Part Sheet). AnswersPart x p q k) (sym e) refl
+pub refused-first : (file : List ℕ) (p q : ℕ) (why : Refusal) → sheetIn file ≡ refused why → Verdict file p q (why .number)
+refused-first file p q why e = subst (λ (x : Part Sheet). AnswersPart x p q (why .number)) (sym e) refl
 
 -- a file that is read is answered as its sheet is
 pub read-answered : (file : List ℕ) (s : Sheet) (next p q r : ℕ) → sheetIn file ≡ got s next → Answers (timed p q) s p q r → Verdict file p q r

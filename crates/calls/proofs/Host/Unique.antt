@@ -18,7 +18,7 @@ answers-same false s p q a b x y = x ∙ sym y
 
 part-same : (w : Part Sheet) (p q a b : ℕ) → AnswersPart w p q a → AnswersPart w p q b → a ≡ b
 part-same (got s next) p q a b x y = answers-same (timed p q) s p q a b x y
-part-same (refused k) p q a b x y = x ∙ sym y
+part-same (refused why) p q a b x y = x ∙ sym y
 
 -- THEOREM: the number is determined
 pub verdict-same : (file : List ℕ) (p q a b : ℕ) → Verdict file p q a → Verdict file p q b → a ≡ b

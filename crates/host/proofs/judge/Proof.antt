@@ -62,8 +62,8 @@ same-length-2 : tie.Need-same-length-2
 same-length-2 c = search needs
 
 returns : tie.Need-returns
-returns c = let r = c .before .before .before .before .before .before in let s = r .before .before .before .before .before in let k = c .before .read .given .0 .0 in
-    refused-first _ (s .args .p) (s .args .q) k (read-refused _ _ _ (s .pre .0) (s .pre .1) (r .read-sheet .result) _ _ _ (c .before .read .given .1) (r .read-sheet .ensures))
+returns c = let r = c .before .before .before .before .before .before .before in let s = r .before .before .before .before .before in let k = c .before .before .read .given .0 .0 in
+    refused-first _ (s .args .p) (s .args .q) k (read-refused _ _ _ (s .pre .0) (s .pre .1) (r .read-sheet .result) _ _ _ (c .before .before .read .given .1) (r .read-sheet .ensures))
 
 same-length-3 : tie.Need-same-length-3
 same-length-3 c = search needs

@@ -30,16 +30,16 @@ S c = c .before .before .before .before .before
 format-test : (x y : Number) → tested (between 1 1) 3 x ≡ y → tested (λ format. eqb format 1) 3 x ≡ y
 format-test x y e = sym (tested-same (between 1 1) (λ format. eqb format 1) just-one 3 x) ∙ e
 
-format-is : (c : tie.After-known-told) → tested (λ format. eqb format 1) 3 (numberAt (S c .args .file .now) 0) ≡ Value (c .before .first .given .0 .0) (c .before .first .given .0 .1 .0)
-format-is c = format-test (numberAt (S c .args .file .now) 0) (Value (c .before .first .given .0 .0) (c .before .first .given .0 .1 .0)) (sym (c .before .before .before .number-within .ensures) ∙ c .before .first .given .1)
+format-is : (c : tie.After-known-told) → tested (λ format. eqb format 1) 3 (numberAt (S c .args .file .now) 0) ≡ Value (c .before .first .given .0 .0) (c .before .first .given .0 .1 .0) (c .before .first .given .0 .1 .1 .0)
+format-is c = format-test (numberAt (S c .args .file .now) 0) (Value (c .before .first .given .0 .0) (c .before .first .given .0 .1 .0) (c .before .first .given .0 .1 .1 .0)) (sym (c .before .before .before .number-within .ensures) ∙ c .before .first .given .1)
 
-events-is : (c : tie.After-known-told2) → tested (within 12) 4 (numberAt (S (K1 c) .args .file .now) (K1 c .before .first .given .0 .1 .0)) ≡ Value (c .before .second .given .0 .0) (c .before .second .given .0 .1 .0)
+events-is : (c : tie.After-known-told2) → tested (within 12) 4 (numberAt (S (K1 c) .args .file .now) (K1 c .before .first .given .0 .1 .1 .0)) ≡ Value (c .before .second .given .0 .0) (c .before .second .given .0 .1 .0) (c .before .second .given .0 .1 .1 .0)
 events-is c = sym (c .before .before .before .number-within2 .ensures) ∙ c .before .second .given .1
 
-modes-is : (c : tie.After-known-told3) → tested (within 8) 4 (numberAt (S (K1 (K2 c)) .args .file .now) (K2 c .before .second .given .0 .1 .0)) ≡ Value (c .before .third .given .0 .0) (c .before .third .given .0 .1 .0)
+modes-is : (c : tie.After-known-told3) → tested (within 8) 4 (numberAt (S (K1 (K2 c)) .args .file .now) (K2 c .before .second .given .0 .1 .1 .0)) ≡ Value (c .before .third .given .0 .0) (c .before .third .given .0 .1 .0) (c .before .third .given .0 .1 .1 .0)
 modes-is c = sym (c .before .before .before .number-within3 .ensures) ∙ c .before .third .given .1
 
-positions-is : (c : tie.After-known-told4) → tested (within 16) 4 (numberAt (S (K1 (K2 (K3 c))) .args .file .now) (K3 c .before .third .given .0 .1 .0)) ≡ Value (c .before .fourth .given .0 .0) (c .before .fourth .given .0 .1 .0)
+positions-is : (c : tie.After-known-told4) → tested (within 16) 4 (numberAt (S (K1 (K2 (K3 c))) .args .file .now) (K3 c .before .third .given .0 .1 .1 .0)) ≡ Value (c .before .fourth .given .0 .0) (c .before .fourth .given .0 .1 .0) (c .before .fourth .given .0 .1 .1 .0)
 positions-is c = sym (c .before .before .before .number-within4 .ensures) ∙ c .before .fourth .given .1
 
 number-within-requires : tie.Need-number-within-requires

@@ -23,8 +23,8 @@ enum-known-n c = search needs
 read-rest-requires : tie.Need-read-rest-requires
 read-rest-requires c κs = let k = counted _ _ _ _ (head (c .before .before .before)) in (k .few-events, k .some-modes, k .few-modes)
 
-enum-known-number : tie.Need-enum-known-number
-enum-known-number c = search needs
+enum-known-refusal : tie.Need-enum-known-refusal
+enum-known-refusal c = search needs
 
 same-length : tie.Need-same-length
 same-length c = search needs
@@ -44,7 +44,7 @@ returns c =
 returns-2 : tie.Need-returns-2
 unfolding sheetIn
 returns-2 c = let h = c .before .before .before in let a = h .before .before .before .args in
-    fills-refused (sheetIn (a .file .now)) (a .tables .now) (a .schedule .now) _ _ _ (then-refused _ _ _ (sym (h .read-head .ensures) ∙ ap headPart (c .before .number .given .1)))
+    fills-refused (sheetIn (a .file .now)) (a .tables .now) (a .schedule .now) _ _ _ (then-refused _ _ _ (sym (h .read-head .ensures) ∙ ap headPart (c .before .refusal .given .1)))
 
 pub read-into-spec : {M : Type 1} → statement M
 read-into-spec =
@@ -53,7 +53,7 @@ read-into-spec =
     read-head-requires
     enum-known-n
     read-rest-requires
-    enum-known-number
+    enum-known-refusal
     same-length
     same-length-2
     returns

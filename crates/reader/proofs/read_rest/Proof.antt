@@ -32,11 +32,11 @@ read-tables-requires c κs = search needs
 enum-told : tie.Need-enum-told
 enum-told c = search needs
 
-enum-known-number : tie.Need-enum-known-number
-enum-known-number c = search needs
+enum-known-refusal : tie.Need-enum-known-refusal
+enum-known-refusal c = search needs
 
-enum-known-number-2 : tie.Need-enum-known-number-2
-enum-known-number-2 c = search needs
+enum-known-refusal-2 : tie.Need-enum-known-refusal-2
+enum-known-refusal-2 c = search needs
 
 same-length : tie.Need-same-length
 same-length c = search needs
@@ -71,7 +71,7 @@ returns-2 c =
     let a = z .before .before .before .before .args in
     let k = walked modes _ _ _ _ _ (v .next .given .1) (z .read-schedule .ensures) in
     fills-refused (sheetAfter (a .file .now) (counts (a .n) (a .m) (a .positions)) (a .at)) (a .tables .now) (a .schedule .now) _ _ _
-    (then-value _ _ _ _ (k .is) ∙ then-refused _ _ _ (unwalked values _ _ _ _ _ (c .before .number .given .1) (w .read-tables .ensures)))
+    (then-value _ _ _ _ (k .is) ∙ then-refused _ _ _ (unwalked values _ _ _ _ _ (c .before .refusal .given .1) (w .read-tables .ensures)))
 
 same-length-5 : tie.Need-same-length-5
 same-length-5 c = search needs
@@ -82,7 +82,7 @@ returns-3 c =
     let z = c .before .before .before .before .before in
     let a = z .before .before .before .before .args in
     fills-refused (sheetAfter (a .file .now) (counts (a .n) (a .m) (a .positions)) (a .at)) (a .tables .now) (a .schedule .now) _ _ _
-    (then-refused _ _ _ (unwalked modes _ _ _ _ _ (c .before .number2 .given .1) (z .read-schedule .ensures)))
+    (then-refused _ _ _ (unwalked modes _ _ _ _ _ (c .before .refusal2 .given .1) (z .read-schedule .ensures)))
 
 pub read-rest-spec : {M : Type 1} → statement M
 read-rest-spec =
@@ -92,8 +92,8 @@ read-rest-spec =
     enum-known-next
     read-tables-requires
     enum-told
-    enum-known-number
-    enum-known-number-2
+    enum-known-refusal
+    enum-known-refusal-2
     same-length
     same-length-2
     returns

@@ -30,7 +30,7 @@ mode-is : (file : List ℕ) (m p : ℕ) → 1 ≤ m → tested (λ t. ltb t m) 5
 mode-is file m p h = sym (tested-same (between 0 (m - 1)) (λ t. ltb t m) (λ v. below v m h) 5 (numberAt file p))
 
 here : (c : tie.After-value Inv-loop μ-loop) → let l = c .before .before .before .before in let a = l .before .before .before .args in
-    tested (λ t. ltb t (a .m)) 5 (numberAt (a .file .now) (l .loop .p)) ≡ Value (c .value .given .0 .0) (c .value .given .0 .1 .0)
+    tested (λ t. ltb t (a .m)) 5 (numberAt (a .file .now) (l .loop .p)) ≡ Value (c .value .given .0 .0) (c .value .given .0 .1 .0) (c .value .given .0 .1 .1 .0)
 here c = let l = c .before .before .before .before in let s = l .before .before .before in mode-is (s .args .file .now) (s .args .m) (l .loop .p) (s .pre .0) ∙ sym (c .before .before .number-within .ensures) ∙ c .value .given .1
 
 loop-holds : tie.Need-loop-holds Inv-loop μ-loop
@@ -50,8 +50,8 @@ put-byte-requires : tie.Need-put-byte-requires Inv-loop μ-loop
 put-byte-requires c κs = let v = c .before .before in let s = v .before .before .before .before .before .before .before in
     omega (arith, ltb-true (v .value .given .0 .0) (s .args .m) (tested-value _ _ _ _ _ (here v) .1), s .pre .1)
 
-enum-known-number : tie.Need-enum-known-number Inv-loop μ-loop
-enum-known-number c = search needs
+enum-known-refusal : tie.Need-enum-known-refusal Inv-loop μ-loop
+enum-known-refusal c = search needs
 
 same-length : tie.Need-same-length Inv-loop μ-loop
 same-length c = search needs
@@ -61,8 +61,8 @@ returns c =
     let l = c .before .before .before .before .before in
     let s = l .before .before .before in
     let a = s .args in
-    l .loop .inv .2 _ _ (position-stop (a .file .now) (a .m) (a .positions) (l .loop .h) (l .loop .p) (l .loop .schedule) (c .before .before .before .before .loop-test .taken) (c .before .number .given .0 .0)
-    (mode-is (a .file .now) (a .m) (l .loop .p) (s .pre .0) ∙ sym (c .before .before .before .number-within .ensures) ∙ c .before .number .given .1))
+    l .loop .inv .2 _ _ (position-stop (a .file .now) (a .m) (a .positions) (l .loop .h) (l .loop .p) (l .loop .schedule) (c .before .before .before .before .loop-test .taken) (c .before .refusal .given .0 .0)
+    (mode-is (a .file .now) (a .m) (l .loop .p) (s .pre .0) ∙ sym (c .before .before .before .number-within .ensures) ∙ c .before .refusal .given .1))
 
 add-h : tie.Need-add-h Inv-loop μ-loop
 add-h c = search needs
@@ -78,8 +78,8 @@ loop-again c =
     let a = l .before .before .before .args in (
       omega (arith, v .before .before .before .loop-test .taken),
       w .put-byte .kept .0 ∙ l .loop .inv .1,
-      λ r now h. l .loop .inv .2 r now (position-next (a .file .now) (a .m) (a .positions) (l .loop .h) (l .loop .p) (l .loop .schedule) (v .before .before .before .loop-test .taken) _ _ (here v) r now
-          (subst (λ (t : List ℕ). Walks (storeModes (l .loop .h + 1)) (scheduleAt (a .file .now) (a .m) (a .positions - (l .loop .h + 1)) (v .value .given .0 .1 .0)) t r now) (w .put-byte .ensures) h)),
+      λ r now h. l .loop .inv .2 r now (position-next (a .file .now) (a .m) (a .positions) (l .loop .h) (l .loop .p) (l .loop .schedule) (v .before .before .before .loop-test .taken) _ _ _ (here v) r now
+          (subst (λ (t : List ℕ). Walks (storeModes (l .loop .h + 1)) (scheduleAt (a .file .now) (a .m) (a .positions - (l .loop .h + 1)) (v .value .given .0 .1 .1 .0)) t r now) (w .put-byte .ensures) h)),
     )
 
 same-length-2 : tie.Need-same-length-2 Inv-loop μ-loop
@@ -100,7 +100,7 @@ read-schedule-spec =
     number-within-requires
     enum-known-value
     put-byte-requires
-    enum-known-number
+    enum-known-refusal
     same-length
     returns
     add-h

@@ -66,8 +66,8 @@ read-mode-requires c κs = search needs
 enum-known-next : tie.Need-enum-known-next Inv-loop μ-loop
 enum-known-next c = search needs
 
-enum-known-number : tie.Need-enum-known-number Inv-loop μ-loop
-enum-known-number c = search needs
+enum-known-refusal : tie.Need-enum-known-refusal Inv-loop μ-loop
+enum-known-refusal c = search needs
 
 same-length : tie.Need-same-length Inv-loop μ-loop
 same-length c = search needs
@@ -77,8 +77,8 @@ returns c =
     let w = c .before .before .before .before in
     let l = c .before .before .before .before .before .before .before .before in
     let a = l .before .before .args in
-    l .loop .inv .2 _ _ (mode-stop (a .file .now) (a .n) (a .m) (l .loop .t) (l .loop .p) (l .loop .tables) (c .before .before .before .before .before .before .before .loop-test .taken) (c .before .number .given .0 .0)
-    (unwalked (storeMode (a .n)) _ _ _ _ _ (c .before .number .given .1) (w .read-mode .ensures)) _ _)
+    l .loop .inv .2 _ _ (mode-stop (a .file .now) (a .n) (a .m) (l .loop .t) (l .loop .p) (l .loop .tables) (c .before .before .before .before .before .before .before .loop-test .taken) (c .before .refusal .given .0 .0)
+    (unwalked (storeMode (a .n)) _ _ _ _ _ (c .before .refusal .given .1) (w .read-mode .ensures)) _ _)
 
 add-t : tie.Need-add-t Inv-loop μ-loop
 add-t c = search needs
@@ -123,7 +123,7 @@ read-modes-spec =
     part-read-mode-end
     read-mode-requires
     enum-known-next
-    enum-known-number
+    enum-known-refusal
     same-length
     returns
     add-t

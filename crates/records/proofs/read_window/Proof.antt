@@ -26,13 +26,13 @@ abbrev S : tie.After-known-told → tie.Start
 S c = c .before .before .before .before .before
 
 -- each number as it was read
-kind-is : (c : tie.After-known-told) → tested (λ kind. leb kind 3) 6 (numberAt (S c .args .file .now) (S c .args .at)) ≡ Value (c .before .first .given .0 .0) (c .before .first .given .0 .1 .0)
+kind-is : (c : tie.After-known-told) → tested (λ kind. leb kind 3) 6 (numberAt (S c .args .file .now) (S c .args .at)) ≡ Value (c .before .first .given .0 .0) (c .before .first .given .0 .1 .0) (c .before .first .given .0 .1 .1 .0)
 kind-is c = sym (c .before .before .before .kind-at .ensures) ∙ c .before .first .given .1
 
-to-is : (c : tie.After-known-told2) → tested (within (S (K1 c) .args .n)) 6 (numberAt (S (K1 c) .args .file .now) (K1 c .before .first .given .0 .1 .0)) ≡ Value (c .before .second .given .0 .0) (c .before .second .given .0 .1 .0)
+to-is : (c : tie.After-known-told2) → tested (within (S (K1 c) .args .n)) 6 (numberAt (S (K1 c) .args .file .now) (K1 c .before .first .given .0 .1 .1 .0)) ≡ Value (c .before .second .given .0 .0) (c .before .second .given .0 .1 .0) (c .before .second .given .0 .1 .1 .0)
 to-is c = sym (c .before .before .before .number-within .ensures) ∙ c .before .second .given .1
 
-from-is : (c : tie.After-known-told3) → tested (within (S (K1 (K2 c)) .args .n)) 6 (numberAt (S (K1 (K2 c)) .args .file .now) (K2 c .before .second .given .0 .1 .0)) ≡ Value (c .before .third .given .0 .0) (c .before .third .given .0 .1 .0)
+from-is : (c : tie.After-known-told3) → tested (within (S (K1 (K2 c)) .args .n)) 6 (numberAt (S (K1 (K2 c)) .args .file .now) (K2 c .before .second .given .0 .1 .1 .0)) ≡ Value (c .before .third .given .0 .0) (c .before .third .given .0 .1 .0) (c .before .third .given .0 .1 .1 .0)
 from-is c = sym (c .before .before .before .number-within2 .ensures) ∙ c .before .third .given .1
 
 fit : (c : tie.After-known-told3) → Fit (S (K1 (K2 c)) .args .n) (K1 (K2 c) .before .first .given .0 .0) (K2 c .before .second .given .0 .0) (c .before .third .given .0 .0)

@@ -49,8 +49,8 @@ add-low c = let v = c .before .before .before .before .before in
     let s = v .before .before .before .before .before .before in
     omega (arith, place-within _ _ _ _ _ _ (here v), few (s .args .n) (s .pre))
 
-enum-known-number : tie.Need-enum-known-number Inv-loop μ-loop
-enum-known-number c = search needs
+enum-known-refusal : tie.Need-enum-known-refusal Inv-loop μ-loop
+enum-known-refusal c = search needs
 
 same-length : tie.Need-same-length Inv-loop μ-loop
 same-length c = search needs
@@ -58,8 +58,8 @@ same-length c = search needs
 returns : tie.Need-returns Inv-loop μ-loop
 returns c = let l = c .before .before .before .before .before in
     let a = l .before .before .args in
-    l .loop .inv .2 _ _ (stop (a .file .now) (a .n) (a .count) (l .loop .k) (l .loop .low) (l .loop .p) (l .loop .part) (c .before .before .before .before .loop-test .taken) (c .before .number .given .0 .0)
-    (sym (c .before .before .before .read-window .ensures) ∙ ap foundPart (c .before .number .given .1)))
+    l .loop .inv .2 _ _ (stop (a .file .now) (a .n) (a .count) (l .loop .k) (l .loop .low) (l .loop .p) (l .loop .part) (c .before .before .before .before .loop-test .taken) (c .before .refusal .given .0 .0)
+    (sym (c .before .before .before .read-window .ensures) ∙ ap foundPart (c .before .refusal .given .1)))
 
 add-k : tie.Need-add-k Inv-loop μ-loop
 add-k c = search needs
@@ -101,7 +101,7 @@ read-windows-spec =
     decode-requires
     put-value-requires
     add-low
-    enum-known-number
+    enum-known-refusal
     same-length
     returns
     add-k
