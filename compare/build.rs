@@ -5,7 +5,7 @@ use std::path::Path;
 
 fn main() {
     let archives = Path::new(env!("CARGO_MANIFEST_DIR")).join("../target/staticlib");
-    for name in ["libprobe.a", "libhost.a"] {
+    for name in ["libprobe.a", "libhost.a", "libchecker.a"] {
         let archive = archives.join(name);
         println!("cargo:rerun-if-changed={}", archive.display());
         println!("cargo:rustc-link-arg-bins={}", archive.display());

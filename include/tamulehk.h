@@ -13,7 +13,7 @@ extern "C" {
 #endif
 
 /* What the call answers. Numbers 1 to 8 judge the sheet and come first; then 10 judges p and q. */
-#define TAMULEHK_ACCEPTED    0u    /* accepted: the cycle time works */
+#define TAMULEHK_ACCEPTED    0u    /* accepted (tamulehk_ask): the cycle time works */
 #define TAMULEHK_STOPS       1u    /* file stops before the sheet is complete */
 #define TAMULEHK_NUMBER      2u    /* number not shortest, or a fourth group marked as followed */
 #define TAMULEHK_FORMAT      3u    /* format number not 1 */
@@ -23,7 +23,7 @@ extern "C" {
 #define TAMULEHK_ORDER       7u    /* records not strictly rising */
 #define TAMULEHK_SURPLUS     8u    /* bytes after the sheet */
 #define TAMULEHK_CYCLE_TIME  10u   /* p or q past its limit */
-#define TAMULEHK_REFUTED     100u  /* refuted: the cycle time does not work */
+#define TAMULEHK_REFUTED     100u  /* refuted (tamulehk_ask): the cycle time does not work */
 
 /* The longest sheet has 27,684 bytes. Of a longer file the first 27,685 bytes get the same answer as the whole. */
 #define TAMULEHK_ENOUGH 27685u

@@ -1,13 +1,13 @@
 //! The proved calls, through C, out of the archives that `rt staticlib` builds of the
-//! crates probe and host.
+//! crates probe, host and checker.
 //!
 //! A slice passes as two arguments, a pointer and a count of elements. Nothing checks
 //! these declarations against the archives but the comparison itself: keep them beside
-//! `crates/probe/src/lib.rt` and `include/tamulehk.h`.
+//! `crates/probe/src/lib.rt`, `include/tamulehk.h` and `include/tamulehk_check.h`.
 
 #![allow(unsafe_code)]
 
-use crate::calls::{Calls, Lent};
+use crate::calls::{Calls, Checks, Lent};
 
 /// The proved calls, as far as the archives have them.
 pub const CALLS: Calls = Calls {
@@ -26,6 +26,12 @@ pub const CALLS: Calls = Calls {
     report: Some(report),
     #[cfg(not(any(feature = "report", test)))]
     report: None,
+    checks: Checks {
+        times,
+        arcs,
+        file_times,
+        file_arcs,
+    },
 };
 
 extern "C" {
@@ -100,6 +106,60 @@ extern "C" {
         out_count: usize,
         values: *mut u64,
         values_count: usize,
+    ) -> u32;
+
+    fn probe_times(
+        n: u64,
+        m: u64,
+        positions: u64,
+        tables: *const i32,
+        tables_count: usize,
+        schedule: *const u8,
+        schedule_count: usize,
+        p: u64,
+        q: u64,
+        times: *const i64,
+        times_count: usize,
+        values: *mut u64,
+        values_count: usize,
+    ) -> u32;
+
+    fn probe_arcs(
+        n: u64,
+        m: u64,
+        positions: u64,
+        tables: *const i32,
+        tables_count: usize,
+        schedule: *const u8,
+        schedule_count: usize,
+        p: u64,
+        q: u64,
+        arcs: *const u8,
+        arcs_count: usize,
+        values: *mut u64,
+        values_count: usize,
+    ) -> u32;
+
+    fn tamulehk_check_times(
+        sheet: *const u8,
+        length: usize,
+        p: u64,
+        q: u64,
+        times: *const i64,
+        count: usize,
+        values: *mut u64,
+        room: usize,
+    ) -> u32;
+
+    fn tamulehk_check_arcs(
+        sheet: *const u8,
+        length: usize,
+        p: u64,
+        q: u64,
+        arcs: *const u8,
+        count: usize,
+        values: *mut u64,
+        room: usize,
     ) -> u32;
 }
 
@@ -210,6 +270,84 @@ fn report(file: &[u8], out: &mut [u8], values: &mut [u64]) -> u32 {
             file.len(),
             out.as_mut_ptr(),
             out.len(),
+            values.as_mut_ptr(),
+            values.len(),
+        )
+    }
+}
+
+fn times(lent: Lent<'_>, p: u64, q: u64, times: &[i64], values: &mut [u64]) -> u32 {
+    // SAFETY: every pointer comes with the count of its own slice; the call keeps none
+    // and writes only through the last.
+    unsafe {
+        probe_times(
+            lent.n,
+            lent.m,
+            lent.v,
+            lent.tables.as_ptr(),
+            lent.tables.len(),
+            lent.schedule.as_ptr(),
+            lent.schedule.len(),
+            p,
+            q,
+            times.as_ptr(),
+            times.len(),
+            values.as_mut_ptr(),
+            values.len(),
+        )
+    }
+}
+
+fn arcs(lent: Lent<'_>, p: u64, q: u64, arcs: &[u8], values: &mut [u64]) -> u32 {
+    // SAFETY: every pointer comes with the count of its own slice; the call keeps none
+    // and writes only through the last.
+    unsafe {
+        probe_arcs(
+            lent.n,
+            lent.m,
+            lent.v,
+            lent.tables.as_ptr(),
+            lent.tables.len(),
+            lent.schedule.as_ptr(),
+            lent.schedule.len(),
+            p,
+            q,
+            arcs.as_ptr(),
+            arcs.len(),
+            values.as_mut_ptr(),
+            values.len(),
+        )
+    }
+}
+
+fn file_times(file: &[u8], p: u64, q: u64, times: &[i64], values: &mut [u64]) -> u32 {
+    // SAFETY: every pointer comes with the count of its own slice; the call keeps none
+    // and writes only through the last.
+    unsafe {
+        tamulehk_check_times(
+            file.as_ptr(),
+            file.len(),
+            p,
+            q,
+            times.as_ptr(),
+            times.len(),
+            values.as_mut_ptr(),
+            values.len(),
+        )
+    }
+}
+
+fn file_arcs(file: &[u8], p: u64, q: u64, arcs: &[u8], values: &mut [u64]) -> u32 {
+    // SAFETY: every pointer comes with the count of its own slice; the call keeps none
+    // and writes only through the last.
+    unsafe {
+        tamulehk_check_arcs(
+            file.as_ptr(),
+            file.len(),
+            p,
+            q,
+            arcs.as_ptr(),
+            arcs.len(),
             values.as_mut_ptr(),
             values.len(),
         )

@@ -1,4 +1,4 @@
-//! Buffers lent to be written.
+//! Buffers lent to be written, or to be read and left alone.
 
 use std::fmt::Debug;
 
@@ -19,6 +19,12 @@ impl Cell for u8 {
 impl Cell for i32 {
     fn of_bits(bits: u64) -> i32 {
         bits as i32
+    }
+}
+
+impl Cell for i64 {
+    fn of_bits(bits: u64) -> i64 {
+        bits as i64
     }
 }
 
@@ -53,6 +59,14 @@ impl<T: Cell> Buffer<T> {
             before: cells.clone(),
             cells,
         }
+    }
+
+    /// A buffer that holds this.
+    pub fn holding(random: &mut Random, contents: &[T]) -> Buffer<T> {
+        let mut buffer = Buffer::new(random, contents.len());
+        buffer.lend().copy_from_slice(contents);
+        buffer.before.clone_from(&buffer.cells);
+        buffer
     }
 
     /// The places lent.
@@ -115,6 +129,16 @@ mod tests {
         buffer.lend()[2] ^= 1;
         let fault = buffer.holds(&[!old[0]]).unwrap_err();
         assert!(fault.starts_with("place 2") && fault.ends_with("left alone"));
+    }
+
+    #[test]
+    fn what_is_lent_to_be_read_is_to_stay() {
+        let mut buffer = Buffer::holding(&mut Random::new(1, 2), &[5, -6]);
+        assert_eq!(buffer.contents(), [5, -6]);
+        assert_eq!(buffer.holds(&[]), Ok(()));
+        buffer.lend()[1] = 6;
+        let fault = buffer.holds(&[]).unwrap_err();
+        assert_eq!(fault, "place 1 holds 6, and was to be left alone");
     }
 
     #[test]

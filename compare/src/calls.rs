@@ -41,6 +41,14 @@ pub type Ends = fn(Lent<'_>, &mut [u8], &mut [u8], &mut [u64]) -> u32;
 /// The C call: a file, p and q.
 pub type Host = fn(&[u8], u64, u64) -> u32;
 
+/// The check of a proposal: a sheet, p and q, and a list of times (`i64`) or of the numbers
+/// of arcs (`u8`); values to be written. With 102 come position, kind, to and from of a
+/// window, with 103 the index of an arc.
+pub type Check<T> = fn(Lent<'_>, u64, u64, &[T], &mut [u64]) -> u32;
+
+/// The same for C, of a sheet in a file; with its refusals 1 to 8 comes the place.
+pub type CheckFile<T> = fn(&[u8], u64, u64, &[T], &mut [u64]) -> u32;
+
 /// The report: a file; text and values to be written. With 0 comes the text's length.
 pub type Report = fn(&[u8], &mut [u8], &mut [u64]) -> u32;
 
@@ -59,6 +67,21 @@ pub struct Calls {
     pub host: Host,
     /// The report.
     pub report: Option<Report>,
+    /// The checks of proposals.
+    pub checks: Checks,
+}
+
+/// The checks of proposals, of one program.
+#[derive(Clone, Copy)]
+pub struct Checks {
+    /// Of times.
+    pub times: Check<i64>,
+    /// Of arcs.
+    pub arcs: Check<u8>,
+    /// Of times, by the C call.
+    pub file_times: CheckFile<i64>,
+    /// Of arcs, by the C call.
+    pub file_arcs: CheckFile<u8>,
 }
 
 /// The places of the list lent for values: more than any call returns, to show what is

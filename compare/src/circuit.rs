@@ -15,27 +15,7 @@ pub fn taken(buffer: &Buffer<u8>, count: u64) -> Result<Vec<ArcName>, String> {
         .and_then(|end| buffer.contents().get(..end))
         .ok_or_else(|| format!("{count} arcs in {} places", buffer.places()))?;
     buffer.holds(bytes)?;
-    Ok(names(bytes))
-}
-
-/// The arcs in these bytes.
-pub fn names(bytes: &[u8]) -> Vec<ArcName> {
-    bytes.chunks_exact(4).map(name).collect()
-}
-
-/// The bytes of a circuit, as calls write them.
-#[cfg(test)]
-pub(crate) fn bytes(names: &[ArcName]) -> Vec<u8> {
-    names
-        .iter()
-        .flat_map(|name| name.numbers())
-        .map(|number| number as u8)
-        .collect()
-}
-
-fn name(arc: &[u8]) -> ArcName {
-    let [kind, position, to, from] = [0, 1, 2, 3].map(|part| u64::from(arc[part]));
-    ArcName::from([kind, position, to, from])
+    Ok(ArcName::list(bytes))
 }
 
 #[cfg(test)]
@@ -47,7 +27,7 @@ mod tests {
     fn arcs_are_taken_from_the_front() {
         let names = [ArcName::from([0, 1, 2, 1]), ArcName::from([2, 16, 12, 11])];
         let mut buffer = Buffer::new(&mut Random::new(1, 1), 11);
-        buffer.lend()[..8].copy_from_slice(&bytes(&names));
+        buffer.lend()[..8].copy_from_slice(&ArcName::bytes(&names));
         assert_eq!(taken(&buffer, 2), Ok(names.to_vec()));
     }
 

@@ -8,8 +8,9 @@ use crate::difference::Difference;
 use crate::files;
 use crate::kind::Kind;
 use crate::loans::Loan;
+use crate::proposals;
 use crate::tally::Tally;
-use crate::{ask, ends, host, reader, report, writer};
+use crate::{ask, check, ends, host, reader, report, writer};
 
 /// Compares on the input of a seed and an index, and tells the number agreed on. The
 /// random numbers are what buffers hold before.
@@ -29,7 +30,11 @@ impl Comparison {
     /// The comparison of a kind, unless the calls are without it.
     pub fn new(kind: Kind, calls: &Calls) -> Option<Comparison> {
         let Calls {
-            read, write, host, ..
+            read,
+            write,
+            host,
+            checks,
+            ..
         } = *calls;
         let on_input: OnInput = match kind {
             Kind::Reader => Box::new(move |seed, index, random| {
@@ -40,7 +45,9 @@ impl Comparison {
             }),
             Kind::Ask => {
                 let ask = calls.ask?;
-                Box::new(move |seed, index, random| ask::compare(ask, &timed(seed, index), random))
+                Box::new(move |seed, index, random| {
+                    ask::compare(ask, checks, &timed(seed, index), random)
+                })
             }
             Kind::Ends => {
                 let ends = calls.ends?;
@@ -57,6 +64,22 @@ impl Comparison {
                     report::compare(report, &files::any(seed, index), random)
                 })
             }
+            Kind::Times => Box::new(move |seed, index, random| {
+                check::compare(checks.times, &proposals::lent(seed, index), random)
+            }),
+            Kind::Arcs => Box::new(move |seed, index, random| {
+                check::compare(checks.arcs, &proposals::lent(seed, index), random)
+            }),
+            // times and arcs in turn
+            Kind::Checker => Box::new(move |seed, index, random| {
+                if index % 2 == 0 {
+                    let proposal = proposals::filed(seed, index);
+                    check::compare_file(checks.file_times, &proposal, random)
+                } else {
+                    let proposal = proposals::filed(seed, index);
+                    check::compare_file(checks.file_arcs, &proposal, random)
+                }
+            }),
         };
         Some(Comparison { kind, on_input })
     }
@@ -98,7 +121,7 @@ mod tests {
     /// The stub answers in the place of the archive, through its declarations.
     #[test]
     fn every_number_comes_up() {
-        let counts = [1000, 1000, 600, 600, 1000, 1000];
+        let counts = [1000, 1000, 600, 600, 1000, 1000, 600, 600, 1000];
         for (kind, count) in Kind::ALL.into_iter().zip(counts) {
             let comparison = Comparison::new(kind, &archive::CALLS).unwrap();
             let tally = comparison.run(1, count).unwrap();

@@ -60,7 +60,7 @@ pub struct Question {
 const TIMES: u64 = 0x7469_6d65_7300_0000;
 
 /// Cycle times at their limits and past them.
-const LIMITS: [(u64, u64); 10] = [
+pub(crate) const LIMITS: [(u64, u64); 10] = [
     (0, 0),
     (0, 1),
     (0, GREATEST_Q),

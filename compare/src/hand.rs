@@ -1,11 +1,13 @@
 //! "Sheets tried by hand": every row of 01's table and what stands below it, by the
-//! proved calls, their answers put into 01's words; and files that are refused, each at
-//! its place.
+//! proved calls, their answers put into 01's words; files that are refused, each at its
+//! place; and proposals held to a sheet.
 
+mod proposed;
 mod refused;
 
 use std::fmt;
 
+use second::arc::ArcName;
 use second::check;
 use second::circuit::Circuit;
 use second::cycle_time::CycleTime;
@@ -15,8 +17,7 @@ use second::limits::MOST_POSITIONS;
 use second::sheet::Sheet;
 use second::text;
 
-use crate::calls::{Calls, VALUES};
-use crate::circuit;
+use crate::calls::{Calls, Checks, VALUES};
 use crate::difference::hex;
 use crate::held::{Held, CIRCUIT, PLAN, TABLES};
 use crate::report::PLACES;
@@ -35,9 +36,20 @@ enum Question {
     Report,
     /// Read, into so many places for tables and schedule.
     Read(usize, usize),
+    /// Times or arcs for p/q, held to the sheet in memory.
+    Hold(u64, u64, List),
+    /// The same by the C call.
+    HoldFile(u64, u64, List),
 }
 
-use Question::{Ask, Ends, Host, Read, Report, Written};
+/// What is proposed.
+#[derive(Clone, Copy)]
+enum List {
+    Times(&'static [i64]),
+    Arcs(&'static [u8]),
+}
+
+use Question::{Ask, Ends, Hold, HoldFile, Host, Read, Report, Written};
 
 const FIRST: Drawn = Drawn(1, "0", &["2:1,1=5 3:1,1=8"]);
 const OF_THE_REPORT: Drawn = Drawn(2, "0", &["0:2,1=3 1:2,1=4 2:1,2=2"]);
@@ -107,6 +119,14 @@ pub fn run(calls: &Calls) -> Vec<Tried> {
         // "the C call stays as it is"
         let number = said.split(' ').next().unwrap_or_default();
         case(&name, &bytes, Host(0, 0), number);
+        // before p and q and the proposal
+        case(&name, &bytes, HoldFile(0, 0, List::Times(&[])), said);
+        case(&name, &bytes, HoldFile(0, 0, List::Arcs(&[])), said);
+    }
+    for (drawn, p, q, list, outcome) in proposed::ROWS {
+        let (name, bytes) = (drawn.to_string(), file::write(&drawn.sheet()));
+        case(&name, &bytes, Hold(p, q, list), outcome);
+        case(&name, &bytes, HoldFile(p, q, list), outcome);
     }
     tried
 }
@@ -126,7 +146,8 @@ fn answer(calls: &Calls, file: &[u8], question: Question) -> Result<String, Stri
         Host(p, q) => return Ok((calls.host)(file, p, q).to_string()),
         Report => return report(calls, file),
         Read(tables, schedule) => return Ok(read(calls, file, tables, schedule)),
-        Ask(..) | Ends | Written => {}
+        HoldFile(p, q, list) => return Ok(hold_file(calls.checks, file, p, q, list)),
+        Ask(..) | Ends | Written | Hold(..) => {}
     }
     let held = match Held::read(calls.read, file) {
         Ok(held) => held,
@@ -136,19 +157,37 @@ fn answer(calls: &Calls, file: &[u8], question: Question) -> Result<String, Stri
     match question {
         Ask(p, q) => ask(calls, &held, &sheet, p, q),
         Ends => ends(calls, &held, &sheet),
+        Hold(p, q, list) => Ok(hold(calls.checks, &held, p, q, list)),
         _ => written(calls, &held),
     }
 }
 
-/// The number, and the values that came with it.
-fn read(calls: &Calls, file: &[u8], tables: usize, schedule: usize) -> String {
+/// The number that a call answers, and the values that came with it.
+fn told(call: impl FnOnce(&mut [u64]) -> u32) -> String {
     // no value is so large, so that it tells a place that was not written
     let mut values = [u64::MAX; VALUES];
-    let (mut tables, mut schedule) = (vec![0; tables], vec![0; schedule]);
-    let number = (calls.read)(file, &mut tables, &mut schedule, &mut values);
-    let mut numbers = vec![u64::from(number)];
+    let mut numbers = vec![u64::from(call(&mut values))];
     numbers.extend(values.iter().filter(|&&value| value != u64::MAX));
     joined(&numbers, " ")
+}
+
+fn read(calls: &Calls, file: &[u8], tables: usize, schedule: usize) -> String {
+    let (mut tables, mut schedule) = (vec![0; tables], vec![0; schedule]);
+    told(|values| (calls.read)(file, &mut tables, &mut schedule, values))
+}
+
+fn hold(checks: Checks, held: &Held, p: u64, q: u64, list: List) -> String {
+    told(|values| match list {
+        List::Times(times) => (checks.times)(held.lent(), p, q, times, values),
+        List::Arcs(arcs) => (checks.arcs)(held.lent(), p, q, arcs, values),
+    })
+}
+
+fn hold_file(checks: Checks, file: &[u8], p: u64, q: u64, list: List) -> String {
+    told(|values| match list {
+        List::Times(times) => (checks.file_times)(file, p, q, times, values),
+        List::Arcs(arcs) => (checks.file_arcs)(file, p, q, arcs, values),
+    })
 }
 
 fn ask(calls: &Calls, held: &Held, sheet: &Sheet, p: u64, q: u64) -> Result<String, String> {
@@ -223,7 +262,7 @@ fn report(calls: &Calls, file: &[u8]) -> Result<String, String> {
 
 /// The circuit at the front of a buffer, so many arcs, if it is one of the sheet.
 fn circuit_of(sheet: &Sheet, buffer: &[u8], count: u64) -> Result<Circuit, String> {
-    let arcs = circuit::names(&buffer[..4 * count as usize]);
+    let arcs = ArcName::list(&buffer[..4 * count as usize]);
     check::circuit(sheet, &arcs).map_err(|fault| fault.to_string())
 }
 
@@ -265,6 +304,18 @@ impl fmt::Display for Question {
             Written => f.write_str("written"),
             Report => f.write_str("report"),
             Read(tables, schedule) => write!(f, "read into {tables} and {schedule}"),
+            Hold(p, q, list) => write!(f, "{p}/{q}, {list}"),
+            HoldFile(p, q, list) => write!(f, "file, {p}/{q}, {list}"),
+        }
+    }
+}
+
+impl fmt::Display for List {
+    fn fmt(&self, f: &mut fmt::Formatter<'_>) -> fmt::Result {
+        match self {
+            List::Times(times) => write!(f, "times {}", joined(times, " ")),
+            List::Arcs(arcs) if arcs.len() > 100 => write!(f, "{} numbers of arcs", arcs.len()),
+            List::Arcs(arcs) => write!(f, "arcs {}", joined(arcs, " ")),
         }
     }
 }
@@ -282,7 +333,7 @@ mod tests {
     #[test]
     fn right_calls_pass_every_case() {
         assert_eq!(failures(&CALLS), 0);
-        let cases = ROWS.len() + 9 + 4 * refused::files().len();
+        let cases = ROWS.len() + 9 + 6 * refused::files().len() + 2 * proposed::ROWS.len();
         assert_eq!(run(&CALLS).len(), cases);
     }
 
@@ -301,6 +352,41 @@ mod tests {
         calls = CALLS;
         calls.report = Some(|_, _, _| 0);
         assert_eq!(failures(&calls), 1 + refused);
+    }
+
+    /// The rows of times, and of arcs, that are not accepted.
+    fn wrong_rows() -> (usize, usize) {
+        let wrong = proposed::ROWS.iter().filter(|row| row.4 != "0");
+        let (times, arcs): (Vec<_>, Vec<_>) =
+            wrong.partition(|row| matches!(row.3, List::Times(_)));
+        (times.len(), arcs.len())
+    }
+
+    #[test]
+    fn checks_that_accept_everything_fail() {
+        let refused = refused::files().len();
+        let (times, arcs) = wrong_rows();
+        assert!(times > 20 && arcs > 30);
+        let mut calls = CALLS;
+        calls.checks.times = |_, _, _, _, _| 0;
+        assert_eq!(failures(&calls), times);
+        calls = CALLS;
+        calls.checks.arcs = |_, _, _, _, _| 0;
+        assert_eq!(failures(&calls), arcs);
+        calls = CALLS;
+        calls.checks.file_times = |_, _, _, _, _| 0;
+        assert_eq!(failures(&calls), times + refused);
+        calls = CALLS;
+        calls.checks.file_arcs = |_, _, _, _, _| 0;
+        assert_eq!(failures(&calls), arcs + refused);
+    }
+
+    #[test]
+    fn every_number_of_the_checks_is_tried() {
+        for number in ["0", "10", "11", "102", "103", "104", "105", "106", "107"] {
+            let is_tried = |outcome: &str| outcome.split(' ').next() == Some(number);
+            assert!(proposed::ROWS.iter().any(|row| is_tried(row.4)), "{number}");
+        }
     }
 
     #[test]

@@ -17,17 +17,26 @@ pub enum Kind {
     Host,
     /// Reports written.
     Report,
+    /// Proposed times held to a sheet in memory.
+    Times,
+    /// Proposed arcs held to a sheet in memory.
+    Arcs,
+    /// Both held to a sheet in a file, by the C calls.
+    Checker,
 }
 
 impl Kind {
     /// All kinds.
-    pub const ALL: [Kind; 6] = [
+    pub const ALL: [Kind; 9] = [
         Kind::Reader,
         Kind::Writer,
         Kind::Ask,
         Kind::Ends,
         Kind::Host,
         Kind::Report,
+        Kind::Times,
+        Kind::Arcs,
+        Kind::Checker,
     ];
 
     /// The kind of this name.
@@ -44,10 +53,13 @@ impl Kind {
             Kind::Ends => "ends",
             Kind::Host => "host",
             Kind::Report => "report",
+            Kind::Times => "times",
+            Kind::Arcs => "arcs",
+            Kind::Checker => "checker",
         }
     }
 
-    /// The refusals that calls of this kind can give, in the order in which 01 has
+    /// The refusals that calls of this kind can give, in the order in which 01 and 02 have
     /// them checked.
     pub fn refusals(self) -> &'static [u32] {
         match self {
@@ -55,6 +67,8 @@ impl Kind {
             Kind::Writer | Kind::Ends => &[4, 5, 6, 9],
             Kind::Ask => &[4, 5, 6, 10, 9],
             Kind::Host => &[1, 2, 3, 4, 5, 6, 7, 8, 10],
+            Kind::Times | Kind::Arcs => &[4, 5, 6, 10, 11],
+            Kind::Checker => &[1, 2, 3, 4, 5, 6, 7, 8, 10, 11],
         }
     }
 
@@ -65,6 +79,24 @@ impl Kind {
             Kind::Writer => &[(0, "written")],
             Kind::Ask | Kind::Host => &[(0, "accepted"), (100, "refuted")],
             Kind::Ends | Kind::Report => &[(0, "found"), (101, "none")],
+            Kind::Times => &[(0, "accepted"), (102, "broken")],
+            Kind::Arcs => &[
+                (0, "accepted"),
+                (103, "bad arc"),
+                (104, "not closed"),
+                (105, "left twice"),
+                (106, "not smallest first"),
+                (107, "not above zero"),
+            ],
+            Kind::Checker => &[
+                (0, "accepted"),
+                (102, "broken"),
+                (103, "bad arc"),
+                (104, "not closed"),
+                (105, "left twice"),
+                (106, "not smallest first"),
+                (107, "not above zero"),
+            ],
         }
     }
 }

@@ -23,7 +23,8 @@ usage: compare KIND SEED COUNT      with the second program, on many inputs
        compare spoilt SHEET..       reader and report, on every cut and change of sheets
        compare hand                 the sheets tried by hand
        compare stack [KIND KIB]     on the largest sheets, in the stack stated or given
-KIND   reader, writer, ask, ends, host, report; with SEED and COUNT also all that there are
+KIND   reader, writer, ask, ends, host, report, times, arcs, checker; with SEED and COUNT
+       also all that there are
 SEED   the number that settles the inputs
 COUNT  how many inputs of each kind
 SHEET  a sheet file";

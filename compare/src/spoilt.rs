@@ -85,7 +85,7 @@ impl Comparison {
                     report::compare_in(report::PLACES, report, &bytes, random)
                 })
             }
-            Kind::Writer | Kind::Ask | Kind::Ends | Kind::Host => return None,
+            _ => return None,
         };
         Some(Comparison { kind, on_file })
     }

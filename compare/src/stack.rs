@@ -23,6 +23,8 @@ pub fn limit(kind: Kind) -> usize {
         Kind::Ask => 276,
         Kind::Ends | Kind::Host => 284,
         Kind::Report => 300,
+        Kind::Times | Kind::Arcs => 16,
+        Kind::Checker => 24,
     }
 }
 
@@ -45,7 +47,7 @@ const STEP: i32 = 10_000;
 const LOW: u64 = PLAN as u64 * STEP as u64;
 
 /// What the calls are asked, and the number they answer.
-const QUESTIONS: [(Kind, Form, (u64, u64), u32); 17] = [
+const QUESTIONS: [(Kind, Form, (u64, u64), u32); 25] = [
     (Kind::Reader, Wide, (0, 1), 0),
     (Kind::Reader, Ring, (0, 1), 0),
     (Kind::Writer, Wide, (0, 1), 0),
@@ -63,6 +65,14 @@ const QUESTIONS: [(Kind, Form, (u64, u64), u32); 17] = [
     (Kind::Report, Wide, (0, 1), 0),
     (Kind::Report, Ring, (0, 1), 0),
     (Kind::Report, Crossed, (0, 1), 0),
+    (Kind::Times, Ring, (LOW, 1), 0),
+    (Kind::Times, Ring, (LOW - 1, 1), 102),
+    (Kind::Times, Crossed, (GREATEST_P, GREATEST_Q), 102),
+    (Kind::Arcs, Ring, (LOW - 1, 1), 0),
+    (Kind::Arcs, Ring, (LOW, 1), 107),
+    (Kind::Checker, Ring, (LOW, 1), 107),
+    (Kind::Checker, Ring, (LOW - 1, 1), 102),
+    (Kind::Checker, Crossed, (GREATEST_P, GREATEST_Q), 102),
 ];
 
 /// Runs every call that there is in its own limit.
@@ -110,6 +120,8 @@ struct Room {
     first: Vec<u8>,
     second: Vec<u8>,
     values: Vec<u64>,
+    times: Vec<i64>,
+    arcs: Vec<u8>,
 }
 
 impl Room {
@@ -125,6 +137,8 @@ impl Room {
             first: vec![0; CIRCUIT],
             second: vec![0; CIRCUIT],
             values: vec![0; VALUES],
+            times: (0..).step_by(STEP as usize).take(PLAN).collect(),
+            arcs: ring(),
             file,
         }
     }
@@ -150,8 +164,28 @@ impl Room {
             Kind::Report => calls
                 .report
                 .map_or(u32::MAX, |report| report(&self.file, out, values)),
+            Kind::Times => (calls.checks.times)(lent, p, q, &self.times, values),
+            Kind::Arcs => (calls.checks.arcs)(lent, p, q, &self.arcs, values),
+            // of the plan and the circuit one is accepted, and the number is the other's
+            Kind::Checker => {
+                let by_times = (calls.checks.file_times)(&self.file, p, q, &self.times, values);
+                let by_arcs = (calls.checks.file_arcs)(&self.file, p, q, &self.arcs, values);
+                by_times.max(by_arcs)
+            }
         }
     }
+}
+
+/// The circuit through every node that binds the ring.
+fn ring() -> Vec<u8> {
+    let arc = |node: usize| {
+        let (position, event) = (node / MOST_EVENTS + 1, node % MOST_EVENTS + 1);
+        let to_next = event == MOST_EVENTS;
+        let kind = if to_next { 2 } else { 0 };
+        let to = if to_next { 1 } else { event + 1 };
+        [kind, position, to, event].map(|number| number as u8)
+    };
+    (0..PLAN).flat_map(arc).collect()
 }
 
 /// A sheet whose file is as long as one can be.
@@ -227,6 +261,16 @@ mod tests {
     }
 
     #[test]
+    fn every_question_gets_its_number() {
+        // the second program takes more stack than is stated for the calls
+        for kind in [Kind::Times, Kind::Arcs, Kind::Checker] {
+            let tried = run_one(&CALLS, kind, 8 * 1024).unwrap();
+            let lines: Vec<String> = tried.iter().map(Tried::to_string).collect();
+            assert!(tried.iter().all(|tried| tried.holds), "{lines:?}");
+        }
+    }
+
+    #[test]
     fn what_is_stated_stands_in_every_table() {
         let stated = |file: &str, call: &str, stack: String| {
             let row = format!("\n| {call} | {stack} |\n");
@@ -251,13 +295,25 @@ mod tests {
             (Kind::Ends, "Ends", "`ends`"),
             (Kind::Host, "host", "`tamulehk_ask`"),
             (Kind::Report, "report", "`report`"),
+            (Kind::Times, "times, arcs", "`check_times`, `check_arcs`"),
+            (Kind::Arcs, "times, arcs", "`check_times`, `check_arcs`"),
+            (
+                Kind::Checker,
+                "checker",
+                "`tamulehk_check_times`, `tamulehk_check_arcs`",
+            ),
         ] {
             stated(here, in_this_package, format!("{} KiB", limit(kind)));
             stated(readme, in_readme, limit(kind).to_string());
         }
-        let header = include_str!("../../include/tamulehk.h");
-        let constant = format!("\n#define TAMULEHK_STACK {}u\n", 1024 * limit(Kind::Host));
-        assert!(header.contains(&constant));
+        let constant = |header: &str, name: &str, kind| {
+            let line = format!("\n#define {name} {}u\n", 1024 * limit(kind));
+            assert!(header.contains(&line), "no line {line:?}");
+        };
+        let host = include_str!("../../include/tamulehk.h");
+        constant(host, "TAMULEHK_STACK", Kind::Host);
+        let checker = include_str!("../../include/tamulehk_check.h");
+        constant(checker, "TAMULEHK_CHECK_STACK", Kind::Checker);
     }
 
     #[test]

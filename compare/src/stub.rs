@@ -7,14 +7,15 @@
 
 use std::slice;
 
+use second::arc::ArcName;
 use second::ask::Answer;
 use second::calls;
 use second::ends::{Ends, High};
+use second::proposal::Answered;
 use second::report::Report;
 use second::sheet;
 
-use crate::calls::{Calls, Lent};
-use crate::circuit;
+use crate::calls::{Calls, Checks, Lent};
 use crate::report::PLACES;
 
 /// All calls, by the second program.
@@ -25,6 +26,12 @@ pub const CALLS: Calls = Calls {
     ends: Some(ends),
     host,
     report: Some(report),
+    checks: Checks {
+        times,
+        arcs,
+        file_times,
+        file_arcs,
+    },
 };
 
 fn read(file: &[u8], tables: &mut [i32], schedule: &mut [u8], values: &mut [u64]) -> u32 {
@@ -76,7 +83,7 @@ pub fn ask(
             0
         }
         Ok(Answer::Refuted { circuit: arcs }) => {
-            put(circuit, &circuit::bytes(&arcs));
+            put(circuit, &ArcName::bytes(&arcs));
             put(values, &[arcs.len() as u64]);
             100
         }
@@ -95,16 +102,16 @@ pub fn ends(lent: Lent<'_>, first: &mut [u8], second: &mut [u8], values: &mut [u
                     circuit
                 }
             };
-            put(first, &circuit::bytes(&found.low_circuit));
-            put(second, &circuit::bytes(&arcs));
+            put(first, &ArcName::bytes(&found.low_circuit));
+            put(second, &ArcName::bytes(&arcs));
             list.extend([found.low_circuit.len(), arcs.len()].map(|count| count as i64));
             let list: Vec<u64> = list.iter().map(|&value| value as u64).collect();
             put(values, &list);
             0
         }
         Ok(Ends::None(none)) => {
-            put(first, &circuit::bytes(&none.first));
-            put(second, &circuit::bytes(&none.second));
+            put(first, &ArcName::bytes(&none.first));
+            put(second, &ArcName::bytes(&none.second));
             put(
                 values,
                 &[none.first.len(), none.second.len()].map(|count| count as u64),
@@ -127,6 +134,32 @@ pub fn report(file: &[u8], out: &mut [u8], values: &mut [u64]) -> u32 {
     put(out, text.as_bytes());
     put(values, &[text.len() as u64]);
     0
+}
+
+pub fn times(lent: Lent<'_>, p: u64, q: u64, times: &[i64], values: &mut [u64]) -> u32 {
+    let said = with_second(lent, |lent| calls::check_times(lent, p, q, times));
+    give(said.into(), values)
+}
+
+pub fn arcs(lent: Lent<'_>, p: u64, q: u64, arcs: &[u8], values: &mut [u64]) -> u32 {
+    let said = with_second(lent, |lent| calls::check_arcs(lent, p, q, arcs));
+    give(said.into(), values)
+}
+
+pub fn file_times(file: &[u8], p: u64, q: u64, times: &[i64], values: &mut [u64]) -> u32 {
+    give(calls::check_times_of(file, p, q, times), values)
+}
+
+pub fn file_arcs(file: &[u8], p: u64, q: u64, arcs: &[u8], values: &mut [u64]) -> u32 {
+    give(calls::check_arcs_of(file, p, q, arcs), values)
+}
+
+/// Puts the values at the front, as far as it reaches.
+fn give(answered: Answered, values: &mut [u64]) -> u32 {
+    for (place, value) in values.iter_mut().zip(answered.values) {
+        *place = value;
+    }
+    answered.number as u32
 }
 
 /// Lends the same to the second program.
@@ -276,5 +309,109 @@ unsafe extern "C" fn probe_report(
         slice::from_raw_parts(file, file_count),
         slice::from_raw_parts_mut(out, out_count),
         slice::from_raw_parts_mut(values, values_count),
+    )
+}
+
+#[no_mangle]
+unsafe extern "C" fn probe_times(
+    n: u64,
+    m: u64,
+    positions: u64,
+    tables: *const i32,
+    tables_count: usize,
+    schedule: *const u8,
+    schedule_count: usize,
+    p: u64,
+    q: u64,
+    proposed: *const i64,
+    count: usize,
+    values: *mut u64,
+    values_count: usize,
+) -> u32 {
+    let lent = Lent {
+        n,
+        m,
+        v: positions,
+        tables: slice::from_raw_parts(tables, tables_count),
+        schedule: slice::from_raw_parts(schedule, schedule_count),
+    };
+    times(
+        lent,
+        p,
+        q,
+        slice::from_raw_parts(proposed, count),
+        slice::from_raw_parts_mut(values, values_count),
+    )
+}
+
+#[no_mangle]
+unsafe extern "C" fn probe_arcs(
+    n: u64,
+    m: u64,
+    positions: u64,
+    tables: *const i32,
+    tables_count: usize,
+    schedule: *const u8,
+    schedule_count: usize,
+    p: u64,
+    q: u64,
+    proposed: *const u8,
+    count: usize,
+    values: *mut u64,
+    values_count: usize,
+) -> u32 {
+    let lent = Lent {
+        n,
+        m,
+        v: positions,
+        tables: slice::from_raw_parts(tables, tables_count),
+        schedule: slice::from_raw_parts(schedule, schedule_count),
+    };
+    arcs(
+        lent,
+        p,
+        q,
+        slice::from_raw_parts(proposed, count),
+        slice::from_raw_parts_mut(values, values_count),
+    )
+}
+
+#[no_mangle]
+unsafe extern "C" fn tamulehk_check_times(
+    sheet: *const u8,
+    length: usize,
+    p: u64,
+    q: u64,
+    proposed: *const i64,
+    count: usize,
+    values: *mut u64,
+    room: usize,
+) -> u32 {
+    file_times(
+        slice::from_raw_parts(sheet, length),
+        p,
+        q,
+        slice::from_raw_parts(proposed, count),
+        slice::from_raw_parts_mut(values, room),
+    )
+}
+
+#[no_mangle]
+unsafe extern "C" fn tamulehk_check_arcs(
+    sheet: *const u8,
+    length: usize,
+    p: u64,
+    q: u64,
+    proposed: *const u8,
+    count: usize,
+    values: *mut u64,
+    room: usize,
+) -> u32 {
+    file_arcs(
+        slice::from_raw_parts(sheet, length),
+        p,
+        q,
+        slice::from_raw_parts(proposed, count),
+        slice::from_raw_parts_mut(values, room),
     )
 }

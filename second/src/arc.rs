@@ -36,6 +36,18 @@ impl ArcName {
     pub fn numbers(self) -> [u64; 4] {
         [self.kind, self.position, self.to, self.from]
     }
+
+    /// The arcs of a list in bytes, four to an arc; what is left over is none.
+    pub fn list(bytes: &[u8]) -> Vec<ArcName> {
+        let name = |arc: &[u8]| ArcName::from([0, 1, 2, 3].map(|part| u64::from(arc[part])));
+        bytes.chunks_exact(4).map(name).collect()
+    }
+
+    /// The list in bytes of arcs whose numbers fit.
+    pub fn bytes(names: &[ArcName]) -> Vec<u8> {
+        let numbers = names.iter().flat_map(|name| name.numbers());
+        numbers.map(|number| number as u8).collect()
+    }
 }
 
 impl From<[u64; 4]> for ArcName {
@@ -162,6 +174,15 @@ mod tests {
         };
         let arc = Arc::new(&sheet, position, window);
         (arc.leaves, arc.arrives, arc.w, arc.c)
+    }
+
+    #[test]
+    fn names_are_lists_of_bytes() {
+        let bytes = [0, 1, 2, 1, 255, 16, 0, 12];
+        let names = [[0, 1, 2, 1], [255, 16, 0, 12]].map(ArcName::from);
+        assert_eq!(ArcName::list(&bytes), names);
+        assert_eq!(ArcName::list(&bytes[..7]), names[..1]);
+        assert_eq!(ArcName::bytes(&names), bytes);
     }
 
     #[test]

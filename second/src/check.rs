@@ -27,20 +27,25 @@ pub enum Fault {
     PlanLength,
     /// The time of this node, counted from 1, is below 0.
     NegativeTime(usize),
-    /// The plan breaks this window at this position.
+    /// The plan breaks this window at this position, and none before it: "lowest
+    /// position, then kind, to, from".
     Broken(ArcName),
     /// The time of this node, counted from 1, could be smaller.
     NotEarliest(usize),
     /// The circuit has no arcs.
     NoArcs,
-    /// The mode at that position has no such window.
-    NoSuchWindow(ArcName),
-    /// An arc leaves elsewhere than where the one before arrived.
-    NotChained,
+    /// The first bad arc, at this index from 0: the mode at that position has no such
+    /// window.
+    NoSuchWindow(usize, ArcName),
+    /// The first bad arc, at this index from 0: it leaves elsewhere than where the one
+    /// before arrived.
+    NotChained(usize),
+    /// The last arc arrives elsewhere than where the first one leaves.
+    NotClosed,
     /// A node is left twice.
     LeftTwice,
     /// The first arc leaves another node than the smallest.
-    NotTurned,
+    NotSmallest,
     /// The circuit's total is not above zero.
     NotAboveZero,
     /// The rounds are others.
@@ -65,10 +70,13 @@ impl fmt::Display for Fault {
             Fault::Broken(arc) => write!(f, "the plan breaks the window {arc}"),
             Fault::NotEarliest(node) => write!(f, "the time of node {node} could be smaller"),
             Fault::NoArcs => write!(f, "the circuit has no arcs"),
-            Fault::NoSuchWindow(arc) => write!(f, "there is no window {arc}"),
-            Fault::NotChained => write!(f, "the arcs are not chained and closed"),
+            Fault::NoSuchWindow(_, arc) => write!(f, "there is no window {arc}"),
+            Fault::NotChained(index) => {
+                write!(f, "arc {index} does not leave where the one before arrived")
+            }
+            Fault::NotClosed => write!(f, "the last arc does not arrive where the first leaves"),
             Fault::LeftTwice => write!(f, "a node is left twice"),
-            Fault::NotTurned => write!(f, "the first arc does not leave the smallest node"),
+            Fault::NotSmallest => write!(f, "the first arc does not leave the smallest node"),
             Fault::NotAboveZero => write!(f, "the circuit's total is not above zero"),
             Fault::WrongRounds(rounds) => write!(f, "the rounds are not {rounds}"),
             Fault::StandsStill(table) => write!(f, "table {table} equals the one after it"),

@@ -69,7 +69,7 @@ impl Circuit {
 
 /// Whether each arc leaves where the one before arrived, the first where the
 /// last arrived.
-pub(crate) fn is_chained_and_closed(arcs: &[Arc]) -> bool {
+fn is_chained_and_closed(arcs: &[Arc]) -> bool {
     let before = arcs.iter().cycle().skip(arcs.len().saturating_sub(1));
     arcs.iter()
         .zip(before)

@@ -1,14 +1,16 @@
-//! Files, sheets and loans to compare programs on, the same every time.
+//! Files, sheets, loans and proposals to compare programs on, the same every time.
 
 mod damage;
 mod loans;
+mod proposals;
 mod sheets;
 
 use crate::file;
 use crate::random::Random;
 use crate::sheet::Sheet;
 
-pub use self::loans::{cycle_time, loan, untimed_loan, Loan, Room};
+pub use self::loans::{cycle_time, loan, loan_with, untimed_loan, Loan, Room};
+pub use self::proposals::{any_numbers, arcs, times, Proposed};
 
 /// The file of an index: two sheets, then one that is likely no sheet, and so on.
 ///

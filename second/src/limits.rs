@@ -15,6 +15,9 @@ pub const GREATEST_VALUE: i32 = 1_000_000;
 pub const GREATEST_P: u64 = 1_000_000_000;
 /// q is 1..1000.
 pub const GREATEST_Q: u64 = 1000;
+/// "No plan time exceeds 382,000,000,000", and no proposed time is "beyond" it "either
+/// way" (02, E2).
+pub const GREATEST_TIME: i64 = 382_000_000_000;
 
 /// n, if it is within its limit.
 pub fn events(number: u64) -> Result<usize, Refusal> {
@@ -63,6 +66,15 @@ pub fn value(number: i64) -> Result<i32, Refusal> {
     match i32::try_from(number) {
         Ok(w) if (-GREATEST_VALUE..=GREATEST_VALUE).contains(&w) => Ok(w),
         _ => Err(Refusal::Window),
+    }
+}
+
+/// A proposed time, if it is not beyond its limit either way.
+pub fn proposed_time(number: i64) -> Result<i64, Refusal> {
+    if (-GREATEST_TIME..=GREATEST_TIME).contains(&number) {
+        Ok(number)
+    } else {
+        Err(Refusal::Proposal)
     }
 }
 

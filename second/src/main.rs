@@ -8,12 +8,14 @@ use std::process::ExitCode;
 
 use second::arc::Net;
 use second::ask::{self, Answer};
+use second::calls;
 use second::check::{self, Fault};
 use second::cycle_time::CycleTime;
 use second::ends::{self, Ends};
 use second::file;
 use second::generate;
 use second::judge;
+use second::proposal::Answered;
 use second::report::{self, Report};
 use second::sheet::Sheet;
 use second::text;
@@ -25,6 +27,8 @@ usage: second report < SHEET           the report on a sheet
        second text < SHEET             a sheet as text
        second sheet < TEXT             a text as sheet
        second check P Q SHEET < TIMES  is this the earliest plan?
+       second times P Q SHEET < TIMES  do these times keep every window?
+       second arcs P Q SHEET < ARCS    do these arcs refute P/Q?
        second judge SHEET < REPORT     is this a right report?
        second generate SEED INDEX      a file to try programs on";
 
@@ -99,6 +103,16 @@ fn run(arguments: &[OsString]) -> Result<Outcome, String> {
             let (p, q) = (number(p)?, number(q)?);
             check_plan(&file_bytes(&arguments[3])?, p, q)
         }
+        ["times", p, q, _] => {
+            let (p, q) = (number(p)?, number(q)?);
+            let sheet = file_bytes(&arguments[3])?;
+            Ok(held(calls::check_times_of(&sheet, p, q, &numbers()?)))
+        }
+        ["arcs", p, q, _] => {
+            let (p, q) = (number(p)?, number(q)?);
+            let sheet = file_bytes(&arguments[3])?;
+            Ok(held(calls::check_arcs_of(&sheet, p, q, &numbers()?)))
+        }
         ["judge", _] => {
             let sheet = file_bytes(&arguments[1])?;
             Ok(Outcome::verdict("right", judge::judge(&sheet, &input()?)))
@@ -148,17 +162,26 @@ fn ask_text(bytes: &[u8], p: u64, q: u64) -> Result<String, String> {
     })
 }
 
-/// Checks the plan on standard input: times parted by any white space.
+/// What is said of a proposal; a refusal is an answer, and no verdict.
+fn held(answered: Answered) -> Outcome {
+    Outcome {
+        output: format!("{answered}\n").into(),
+        is_against: answered.number > 100,
+    }
+}
+
+/// Checks the plan on standard input.
 fn check_plan(bytes: &[u8], p: u64, q: u64) -> Result<Outcome, String> {
     let sheet = read_sheet(bytes)?;
     let time = cycle_time(p, q)?;
-    let text = String::from_utf8_lossy(&input()?).into_owned();
-    let plan: Vec<i64> = text
-        .split_whitespace()
-        .map(number)
-        .collect::<Result<_, String>>()?;
-    let checked: Result<(), Fault> = check::is_earliest(&sheet, time, &plan);
+    let checked: Result<(), Fault> = check::is_earliest(&sheet, time, &numbers()?);
     Ok(Outcome::verdict("earliest", checked))
+}
+
+/// The numbers on standard input, parted by any white space.
+fn numbers<T: std::str::FromStr>() -> Result<Vec<T>, String> {
+    let text = String::from_utf8_lossy(&input()?).into_owned();
+    text.split_whitespace().map(number).collect()
 }
 
 fn input() -> Result<Vec<u8>, String> {

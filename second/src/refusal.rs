@@ -1,8 +1,8 @@
-//! The numbers 1 to 10: why a call gives no answer, and of a file, where.
+//! The numbers 1 to 11: why a call gives no answer, and of a file, where.
 
 use std::fmt;
 
-/// A refusal of document 01's table "Numbers a call can answer".
+/// A refusal of document 01's table "Numbers a call can answer", or 11 of 02's E2.
 ///
 /// "Numbers 1 to 10 return only the number and alter nothing lent", so a
 /// refusal carries nothing but itself; the reader's is a [`PlacedRefusal`].
@@ -30,11 +30,14 @@ pub enum Refusal {
     Room = 9,
     /// 10: "p or q past its limit".
     CycleTime = 10,
+    /// 11: "fewer than N proposed times, a proposed time beyond 382,000,000,000 either
+    /// way, or an arc list empty or not of whole arcs" (02, E2).
+    Proposal = 11,
 }
 
 impl Refusal {
     /// All refusals, in the order of the table.
-    pub const ALL: [Refusal; 10] = [
+    pub const ALL: [Refusal; 11] = [
         Refusal::FileStops,
         Refusal::NumberForm,
         Refusal::Format,
@@ -45,6 +48,7 @@ impl Refusal {
         Refusal::Surplus,
         Refusal::Room,
         Refusal::CycleTime,
+        Refusal::Proposal,
     ];
 
     /// The refusal of this number.
@@ -103,11 +107,11 @@ mod tests {
     #[test]
     fn numbers_are_those_of_the_table() {
         let numbers = Refusal::ALL.map(Refusal::number);
-        assert_eq!(numbers, [1, 2, 3, 4, 5, 6, 7, 8, 9, 10]);
+        assert_eq!(numbers, [1, 2, 3, 4, 5, 6, 7, 8, 9, 10, 11]);
         for refusal in Refusal::ALL {
             assert_eq!(Refusal::from_number(refusal.number()), Some(refusal));
         }
-        for number in [0, 11, 100, u64::MAX] {
+        for number in [0, 12, 100, u64::MAX] {
             assert_eq!(Refusal::from_number(number), None);
         }
     }

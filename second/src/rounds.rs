@@ -9,7 +9,15 @@ use crate::cycle_time::CycleTime;
 /// table r, from 0 to N-1, and table r is the plan. On a refutation the number is
 /// N": there is no such r, and all N rounds change something.
 pub fn settle(net: &Net, time: CycleTime) -> Option<(usize, Vec<i64>)> {
-    let mut table = vec![0; net.nodes];
+    settle_from(net, time, vec![0; net.nodes])
+}
+
+/// The same with another table 0: the earliest plan whose times are at least those.
+pub(crate) fn settle_from(
+    net: &Net,
+    time: CycleTime,
+    mut table: Vec<i64>,
+) -> Option<(usize, Vec<i64>)> {
     for round in 0..net.nodes {
         let next = next_table(net, time, &table);
         if next == table {

@@ -7,7 +7,7 @@ use crate::window::{Kind, Window};
 /// The table value that means "no window".
 pub const NO_WINDOW: i32 = i32::MIN;
 
-/// What a caller lends to the writer, Ask and Ends. Nothing is known of it.
+/// What a caller lends to the writer, Ask, Ends and the checks. Nothing is known of it.
 #[derive(Clone, Copy, Debug)]
 pub struct Lent<'a> {
     /// Events per mode.

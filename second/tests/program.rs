@@ -119,8 +119,37 @@ fn check() {
 }
 
 #[test]
+fn proposals() {
+    let path = sample_file("proposals");
+    let said = |word, p, q, list: &str| {
+        let Run {
+            output,
+            errors,
+            code,
+        } = run(&[word, p, q, &path], list.as_bytes());
+        assert_eq!(errors, "");
+        (output, code)
+    };
+    let answer = |line: &str, code| (format!("{line}\n"), Some(code));
+    let accepted = answer("accepted 0", 0);
+    assert_eq!(said("times", "5", "1", "-7\n-4\n"), accepted);
+    let broken = answer("broken 102 1 0 2 1", 1);
+    assert_eq!(said("times", "5", "1", "0 2"), broken);
+    assert_eq!(said("times", "5", "1", "0"), answer("refused 11", 0));
+    assert_eq!(said("arcs", "4", "1", "0 1 2 1\n2 1 1 2\n"), accepted);
+    let turned = answer("wrong 106", 1);
+    assert_eq!(said("arcs", "4", "1", "2 1 1 2 0 1 2 1"), turned);
+    assert_eq!(said("arcs", "4", "0", ""), answer("refused 10", 0));
+    let not_a_number = "\"256\" is not a number that fits here";
+    assert_trouble(&["arcs", "4", "1", &path], b"256 1 2 1", not_a_number);
+    fs::remove_file(path).unwrap();
+}
+
+#[test]
 fn a_file_that_is_no_sheet() {
     let path = file_of("no-sheet", &[1, 2, 9]);
+    assert_prints(&["times", "5", "1", &path], b"0 3", "refused 4 2\n");
+    assert_prints(&["arcs", "5", "1", &path], b"", "refused 4 2\n");
     assert_trouble(&["check", "5", "1", &path], b"0 3", "refused 4 2\n");
     assert_prints(&["judge", &path], b"refused 4 2\n", "right\n");
     let elsewhere = run(&["judge", &path], b"refused 4 1\n");

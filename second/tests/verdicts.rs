@@ -29,12 +29,12 @@ fn circuits_that_are_none() {
     );
     let there = [0, 1, 2, 1];
     let back = [1, 1, 2, 1];
-    let no_such = |arc: [u64; 4]| Err(Fault::NoSuchWindow(arc.into()));
+    let no_such = |arc: [u64; 4]| Err(Fault::NoSuchWindow(0, arc.into()));
     assert_eq!(circuit(&sheet, [there, back]), Ok(()));
-    assert_eq!(circuit(&sheet, [back, there]), Err(Fault::NotTurned));
+    assert_eq!(circuit(&sheet, [back, there]), Err(Fault::NotSmallest));
     assert_eq!(circuit(&sheet, []), Err(Fault::NoArcs));
-    assert_eq!(circuit(&sheet, [there]), Err(Fault::NotChained));
-    assert_eq!(circuit(&sheet, [there, there]), Err(Fault::NotChained));
+    assert_eq!(circuit(&sheet, [there]), Err(Fault::NotClosed));
+    assert_eq!(circuit(&sheet, [there, there]), Err(Fault::NotChained(1)));
     assert_eq!(
         circuit(&sheet, [there, back, there, back]),
         Err(Fault::LeftTwice)
@@ -335,7 +335,7 @@ fn a_refusal_is_right_with_its_number_and_its_place_alone() {
         "refused 4 1 1\n",
         "refused 4, 1\n",
         "refused 0 1\n",
-        "refused 11 1\n",
+        "refused 12 1\n",
         "refused 4 99999999999999999999\n",
     ] {
         let wrong = Wrong::Form(NoReport { line: 1 });

@@ -16,8 +16,8 @@ use Rattle.ends.specs.declared.Ended.{Ended}
 use Rattle.ends.specs.declared.Ended.the-variants as ended
 use Rattle.ask.specs.Answers.{answerAsked}
 use Rattle.ends.specs.Answers.{answerFound, answerEnded}
-use Rattle.answers.specs.Answers.{Given}
-use Rattle.answers.specs.declared.Answered.{Answered}
+use Rattle.values.specs.Answers.{Given}
+use Rattle.values.specs.declared.Answered.{Answered}
 
 abbrev three : ℕ → ℕ → ℕ → Answered
 three a b c = record { number = 0; count = 3; values = a ∷ b ∷ c ∷ 0 ∷ 0 ∷ 0 ∷ 0 ∷ 0 ∷ [] }

@@ -8,7 +8,7 @@ use Rattle.theory.specs.Arcs.{Still, Rounds}
 use Rattle.tables.specs.Sheets.{Sheet}
 use Rattle.tables.specs.Admitted.{Admitted}
 use Rattle.windows.specs.Arcs.{nodes, arcs}
-use Rattle.layout.specs.declared.Record.{Record}
+use Rattle.edges.specs.declared.Record.{Record}
 use Rattle.layout.proofs.Laying.{Modes}
 use Rattle.turns.specs.Rounds.{walked, Filled, Ran}
 use Rattle.turns.proofs.Sheets.{table-is}

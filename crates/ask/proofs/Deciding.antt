@@ -9,7 +9,7 @@ use Rattle.tables.specs.Answers.{answer}
 use Rattle.tables.specs.Admitted.{Admitted}
 use Rattle.windows.specs.Arcs.{nodes}
 use Rattle.windows.specs.Circuits.{numbers}
-use Rattle.layout.specs.declared.Record.{Record}
+use Rattle.edges.specs.declared.Record.{Record}
 use Rattle.layout.proofs.Laying.{Modes}
 use Rattle.turns.specs.Rounds.{Named, walked, Rose, MarkTold, Ran}
 use Rattle.calls.specs.Ask as ask

@@ -6,7 +6,7 @@ use lib.ListN.{length}
 use Rattle.tables.specs.Sheets.{Sheet}
 use Rattle.tables.specs.Answers.{Answer, answer}
 use Rattle.windows.specs.Circuits.{Step}
-use Rattle.layout.specs.declared.Record.{Record}
+use Rattle.edges.specs.declared.Record.{Record}
 use Rattle.ask.specs.declared.Asked.{Asked}
 use Rattle.ask.specs.declared.Asked.the-variants as asked
 use Rattle.calls.specs.Ask.{Accepts, Shows}

@@ -5,7 +5,7 @@ ghost use mathlib.Core.Path.{_≡_};
 ghost use Prim.Native.Nat.{_*_, _≤_};
 ghost use lib.ListN.{length};
 ghost use Rattle.tables.specs.Sheets.{sheet};
-ghost use Rattle.calls.specs.Ask.{timed, askRefusal, Outcome};
+ghost use Rattle.calls.specs.Ask.{askRefusal, Outcome};
 ghost use Rattle.ask.specs.Answers.{answerAsked, LeadsBack, Finishes, Settles};
 
 // The answer: the rounds of an acceptance, the arc count of a refutation, or the number of a refusal.
@@ -15,13 +15,9 @@ pub enum Asked {
     Refused { number: u8 },
 }
 
-const MOST_Q: u64 = 1000;
-
-const MOST_P: u64 = 1000000000;
-
 // Writes what the rounds came to: their table as the plan, or the circuit that their marks lead to.
 fn finish(
-    list: [layout::Record; tables::PLACES],
+    list: [edges::Record; tables::PLACES],
     n: usize,
     positions: usize,
     marks: &[u32],
@@ -106,19 +102,6 @@ fn decide(
     )
 }
 
-// Whether p and q lie within their limits.
-fn is_timed(p: u64, q: u64) -> bool
-    ensures { λ r. ⌜ r ≡ timed p q ⌝ }
-{
-    if q < 1 {
-        return false;
-    }
-    if MOST_Q < q {
-        return false;
-    }
-    p <= MOST_P
-}
-
 // Does the cycle time p/q work? Accepted with the rounds, and the earliest plan in the first N places of `plan`; refuted with the arc
 // count, and a circuit with total above zero in the first places of `circuit`, four numbers an arc; or refused, by 4, 5, 6, 10 or 9.
 pub fn ask(
@@ -138,7 +121,7 @@ pub fn ask(
     if refusal != 0 {
         return Asked::Refused { number: refusal };
     }
-    if !is_timed(p, q) {
+    if !tables::is_timed(p, q) {
         return Asked::Refused { number: 10 };
     }
     let nodes = positions * n;

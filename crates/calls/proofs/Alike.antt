@@ -1,9 +1,9 @@
--- Of a sheet's tables and schedule the outcomes of Ask and of Ends read nothing but limits: of the windows of the mode at a position, between events.
+-- Of a sheet's tables and schedule the outcomes of Ask, of Ends and of held proposals read nothing but limits: of the windows of the mode at a position, between events.
 -- Where two sheets have there the same limits, an outcome for the one is an outcome for the other.
 use mathlib.Core.Path.{_≡_, refl, sym, ap, ap₂, _∙_, subst}
 use mathlib.Core.Logic.{inl, inr}
 use mathlib.Core.List.{List, [], _∷_, map}
-use Prim.Native.Nat.{ℕ}
+use Prim.Native.Nat.{ℕ, zero, suc}
 use lib.IntN.{ℤ}
 use Rattle.theory.specs.Arcs.{Arc, Rounds}
 use Rattle.theory.specs.Circuits.{Circuit, departures, FirstSmallest, Above}
@@ -11,15 +11,18 @@ use Rattle.theory.specs.Ends.{High, Range, LowShown, HighShown, NoneShown}
 use Rattle.tables.specs.Sheets.{Sheet, sheet, absent, refusal}
 use Rattle.tables.specs.Answers.{Answer}
 use Rattle.tables.proofs.Refusing.{otherwise-none}
-use Rattle.windows.specs.Windows.{Kind, Window, Event, entry, Has, mode}
-use Rattle.windows.specs.Inequalities.{Times, Solves, Runs}
+use Rattle.windows.specs.Windows.{Kind, A0, B0, A1, B1, Window, Event, entry, Has, mode}
+use Rattle.windows.specs.Inequalities.{Times, Says, Solves, Runs}
 use Rattle.windows.specs.Arcs as laid
 use Rattle.windows.specs.Arcs.{oneTo, kinds, windowAt, windowsTo, windowsOf, windows, arcOf, arcsAt, arcs, nodes}
-use Rattle.windows.specs.Circuits.{Step, stepArc, Valid, AllValid, CircuitOf}
+use Rattle.windows.specs.Circuits.{Step, limit, stepArc, Valid, AllValid, CircuitOf, Refutes}
 use Rattle.windows.proofs.Listed.{each-same, one-to-of}
 use Rattle.calls.specs.Circuits.{CircuitOrNone}
 use Rattle.calls.specs.Ask as ask
 use Rattle.calls.specs.Ends as ends
+use Rattle.calls.specs.ProposedTimes as proposedTimes
+use Rattle.calls.specs.ProposedArcs as proposedArcs
+use Rattle.calls.proofs.ProposedArcs.Steps.{sound-valid}
 
 -- the other: the same n, m and V over other lists
 abbrev pub lent : Sheet → List ℤ → List ℕ → Sheet
@@ -48,8 +51,12 @@ module _ (s : Sheet) (tables : List ℤ) (schedule : List ℕ) (alike : Alike s 
   abbrev there : Sheet
   there = lent s tables schedule
 
+  -- and the sheet is so for the other
+  alike-back : Alike there (s .tables) (s .schedule)
+  alike-back h k i j to from = sym (alike h k i j to from)
+
   solves-there : (p q : ℕ) (x : Times) → Solves s p q x → Solves there p q x
-  solves-there = solves-from there (s .tables) (s .schedule) (λ h k i j to from. sym (alike h k i j to from))
+  solves-there = solves-from there (s .tables) (s .schedule) alike-back
 
   -- ---- arcs and circuits
 
@@ -106,10 +113,11 @@ module _ (s : Sheet) (tables : List ℤ) (schedule : List ℕ) (alike : Alike s 
         circuit-same = is .circuit-same;
       }
 
+  refutes-same : (p q : ℕ) (cs : List Step) → Refutes s p q cs → Refutes there p q cs
+  refutes-same p q cs r = let c = circuit-same cs (r .circuit) in record { circuit = c .0; above = subst (λ (l : List Arc). Above p q l) (c .1) (r .above) }
+
   shows-same : (p q : ℕ) (plan₀ circuit₀ : List ℕ) (steps : List Step) (plan circuit : List ℕ) → ask.Shows s p q plan₀ circuit₀ steps plan circuit → ask.Shows there p q plan₀ circuit₀ steps plan circuit
-  shows-same p q plan₀ circuit₀ steps plan circuit is =
-      let c = circuit-same steps (is .refutes .circuit) in
-      record { refutes = record { circuit = c .0; above = subst (λ (l : List Arc). Above p q l) (c .1) (is .refutes .above) }; circuit-is = is .circuit-is; plan-same = is .plan-same }
+  shows-same p q plan₀ circuit₀ steps plan circuit is = record { refutes = refutes-same p q steps (is .refutes); circuit-is = is .circuit-is; plan-same = is .plan-same }
 
   runs-there : (p q : ℕ) → Runs s p q → Runs there p q
   runs-there p q is = (is .0, solves-there p q (is .0) (is .1))
@@ -159,6 +167,58 @@ module _ (s : Sheet) (tables : List ℤ) (schedule : List ℕ) (alike : Alike s 
             (subst (λ (d : List Arc). NoneShown (arcs s) (map (stepArc there) cs) d) (b .1) (subst (λ (c : List Arc). NoneShown (arcs s) c (map (stepArc s) ds)) (a .1) (is .none-shown)));
       }
 
+  -- ---- proposed times and arcs
+
+  broken-same : (p q : ℕ) (list : List ℤ) (c : Step) → proposedTimes.Broken s p q list c → proposedTimes.Broken there p q list c
+  broken-same p q list c b =
+      record {
+        present = valid-same c (b .present) .0;
+        breaks = λ says. b .breaks (subst (λ (w : ℤ). Says q (proposedTimes.proposed s p q list) (c .position) (c .kind) (c .to) (c .from) w)
+            (sym (alike (c .position) (c .kind) (c .to) (c .from) (b .present .to-event) (b .present .from-event))) says);
+      }
+
+  -- where an arc leaves and arrives is no matter of its limit
+  nodes-same : (h : ℕ) (k : Kind) (i j : ℕ) (w w′ : ℤ) → (laid.arc s h k i j w .departure ≡ laid.arc there h k i j w′ .departure) × (laid.arc s h k i j w .arrival ≡ laid.arc there h k i j w′ .arrival)
+  nodes-same h A0 i j w w′ = (refl, refl)
+  nodes-same h B0 i j w w′ = (refl, refl)
+  nodes-same h A1 i j w w′ = (refl, refl)
+  nodes-same h B1 i j w w′ = (refl, refl)
+
+  follows-same : (list : List ℕ) (k : ℕ) (c : Step) → proposedArcs.Follows s list k c → proposedArcs.Follows there list k c
+  follows-same list zero c is = tt
+  follows-same list (suc k) c is = λ d stands. sym (ends c .0) ∙ is d stands ∙ ends d .1
+    where
+      ends : (d : Step) → (stepArc s d .departure ≡ stepArc there d .departure) × (stepArc s d .arrival ≡ stepArc there d .arrival)
+      ends d = nodes-same (d .position) (d .kind) (d .to) (d .from) (limit s d) (limit there d)
+
+  good-same : (list : List ℕ) (k : ℕ) → proposedArcs.Good s list k → proposedArcs.Good there list k
+  good-same list k g = record { step = g .step; stands = g .stands; present = valid-same (g .step) (g .present) .0; follows = follows-same list k (g .step) (g .follows) }
+
+  sound-same : (p q : ℕ) (list : List ℕ) (steps : List Step) (k : ℕ) → proposedArcs.Sound s list steps → proposedArcs.Fault p q (map (stepArc s) steps) k
+      → proposedArcs.Sound there list steps × proposedArcs.Fault p q (map (stepArc there) steps) k
+  sound-same p q list steps k sound fault = (
+    record { list-is = sound .list-is; good = λ j below. good-same list j (sound .good j below) },
+    subst (λ (l : List Arc). proposedArcs.Fault p q l k) (all-valid-same steps (sound-valid s list steps sound) .1) fault,
+  )
+
+-- ---- what is broken, or bad, for the one is so for the other, and nothing comes before it there
+
+module _ (s : Sheet) (tables : List ℤ) (schedule : List ℕ) (alike : Alike s tables schedule) where
+  first-broken-same : (p q : ℕ) (list : List ℤ) (c : Step) → proposedTimes.FirstBroken s p q list c → proposedTimes.FirstBroken (lent s tables schedule) p q list c
+  first-broken-same p q list c is =
+      record {
+        broken = broken-same s tables schedule alike p q list c (is .broken);
+        first = λ d b before. is .first d (broken-same (lent s tables schedule) (s .tables) (s .schedule) (alike-back s tables schedule alike) p q list d b) before;
+      }
+
+  first-bad-same : (list : List ℕ) (k : ℕ) → proposedArcs.FirstBad s list k → proposedArcs.FirstBad (lent s tables schedule) list k
+  first-bad-same list k is =
+      record {
+        is-arc = is .is-arc;
+        bad = λ good. is .bad (good-same (lent s tables schedule) (s .tables) (s .schedule) (alike-back s tables schedule alike) list k good);
+        first = λ j before. good-same s tables schedule alike list j (is .first j before);
+      }
+
 -- only a call that is not refused reads limits
 module _ (s : Sheet) (tables : List ℤ) (schedule : List ℕ) (same : refusal s ≡ refusal (lent s tables schedule)) (alike : refusal s ≡ 0 → Alike s tables schedule) where
   module _ (p q : ℕ) (plan₀ circuit₀ : List ℕ) where
@@ -184,3 +244,30 @@ module _ (s : Sheet) (tables : List ℤ) (schedule : List ℕ) (same : refusal s
     ends-alike a first last (ends.none cs ds e none is same same′) =
         ends.none cs ds e (ends-refused ∙ none) (lacks-same s tables schedule (alike (otherwise-none (refusal s) _ none .0)) cs ds is) same same′
     ends-alike a first last (ends.refused k e is some same same′) = ends.refused k e (ends-refused ∙ is) some same same′
+
+  module _ (p q : ℕ) (list : List ℤ) where
+    times-refused : proposedTimes.timesRefusal (lent s tables schedule) p q list ≡ proposedTimes.timesRefusal s p q list
+    times-refused = rw (← same)
+
+    -- THEOREM: an outcome for proposed times for the sheet is one for the other
+    pub times-alike : (a : Answer) → proposedTimes.Outcome s p q list a → proposedTimes.Outcome (lent s tables schedule) p q list a
+    times-alike a (proposedTimes.accepted e none kept) =
+        proposedTimes.accepted e (times-refused ∙ none) (solves-there s tables schedule (alike (otherwise-none (refusal s) _ none .0)) p q (proposedTimes.proposed s p q list) kept)
+    times-alike a (proposedTimes.broken c e none first) =
+        proposedTimes.broken c e (times-refused ∙ none) (first-broken-same s tables schedule (alike (otherwise-none (refusal s) _ none .0)) p q list c first)
+    times-alike a (proposedTimes.refused k e is some) = proposedTimes.refused k e (times-refused ∙ is) some
+
+  module _ (p q : ℕ) (list : List ℕ) where
+    arcs-refused : proposedArcs.arcsRefusal (lent s tables schedule) p q list ≡ proposedArcs.arcsRefusal s p q list
+    arcs-refused = rw (← same)
+
+    -- THEOREM: an outcome for proposed arcs for the sheet is one for the other
+    pub arcs-alike : (a : Answer) → proposedArcs.Outcome s p q list a → proposedArcs.Outcome (lent s tables schedule) p q list a
+    arcs-alike a (proposedArcs.accepted cs e none is refutes) =
+        proposedArcs.accepted cs e (arcs-refused ∙ none) is (refutes-same s tables schedule (alike (otherwise-none (refusal s) _ none .0)) p q cs refutes)
+    arcs-alike a (proposedArcs.bad k e none first) =
+        proposedArcs.bad k e (arcs-refused ∙ none) (first-bad-same s tables schedule (alike (otherwise-none (refusal s) _ none .0)) list k first)
+    arcs-alike a (proposedArcs.faulty cs k e none sound fault) =
+        let f = sound-same s tables schedule (alike (otherwise-none (refusal s) _ none .0)) p q list cs k sound fault in
+        proposedArcs.faulty cs k e (arcs-refused ∙ none) (f .0) (f .1)
+    arcs-alike a (proposedArcs.refused k e is some) = proposedArcs.refused k e (arcs-refused ∙ is) some

@@ -1,6 +1,12 @@
 pub mod Circuits
+pub mod Taking
+pub mod Timed
 pub mod Ask
 pub mod Ends
 pub mod Host
+pub mod ProposedTimes
+pub mod ProposedArcs
+pub mod Proposals
+pub mod Checker
 pub mod Alike
 pub mod Surplus

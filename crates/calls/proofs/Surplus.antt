@@ -1,16 +1,12 @@
--- "the surplus is neither read nor written": sheets that are the same but for surplus are refused alike, and every outcome of Ask and of Ends for the one
+-- "the surplus is neither read nor written": sheets that are the same but for surplus are refused alike, and every outcome of Ask, of Ends and of a held proposal for the one
 -- is an outcome for the other, with the same answer and the same buffers. Each is compared with itself without surplus.
 -- This is of what the calls answer; which of several circuits is given is left open there (Ask/Unique, Ends/Unique), and so is what it rests on.
-use mathlib.Core.Path.{_≡_, refl, sym, ap, ap₂, _∙_, subst}
+use mathlib.Core.Path.{_≡_, sym, ap, ap₂, _∙_, subst}
 use mathlib.Core.Logic.{_≢_}
-use mathlib.Core.Bool.{Bool, true, false}
 use mathlib.Core.List.{List, _++_}
 use Prim.Native.Nat.{ℕ, pred, _%_, _≤_}
-use native.Mathlib.Omega.{arith}
 use native.Mathlib.Nat.{mod-lt, le-refl}
-use borrow.Author.Tests.{leb-true, leb-false, le-leb, lt-leb}
-use lib.Dec.{leb}
-use lib.ListN.{length, take, length-take}
+use lib.ListN.{length}
 use lib.Seq.{getD-take, take-take, take-append-le}
 use lib.IntN.{ℤ}
 use Rattle.tables.specs.Sheets.{Sheet, sheet, exact, noWindow, place, places, sized, scheduled, admitted, refusal}
@@ -21,20 +17,17 @@ use Rattle.windows.specs.Arcs.{nodes}
 use Rattle.windows.proofs.Limits.{number-small, place-below, mode-below}
 use Rattle.calls.specs.Ask as ask
 use Rattle.calls.specs.Ends as ends
+use Rattle.calls.specs.ProposedTimes as times
+use Rattle.calls.specs.ProposedArcs as arcs
 use Rattle.calls.specs.Surplus.{SameButSurplus}
 use Rattle.calls.proofs.Ask.Unique as asked
 use Rattle.calls.proofs.Ends.Unique as ended
-use Rattle.calls.proofs.Alike.{Alike, ask-alike, ends-alike}
+use Rattle.calls.proofs.Taking.{long-same}
+use Rattle.calls.proofs.ProposedTimes.Unique as timed
+use Rattle.calls.proofs.ProposedArcs.Unique as listed
+use Rattle.calls.proofs.Alike.{Alike, ask-alike, ends-alike, times-alike, arcs-alike}
 
 -- ---- refusals
-
--- whether a list is long enough is told by the places that are needed
-long-same : {A : Type 0} (k : ℕ) (l : List A) → leb k (length (take k l)) ≡ leb k (length l)
-long-same k l = go (leb k (length l)) refl
-  where
-    go : (b : Bool) → leb k (length l) ≡ b → leb k (length (take k l)) ≡ b
-    go true e = le-leb k (length (take k l)) (omega (arith, length-take k l, leb-true k (length l) e))
-    go false e = lt-leb k (length (take k l)) (omega (arith, length-take k l, leb-false k (length l) e))
 
 -- THEOREM: the surplus is not read by a refusal: a sheet without it has the same
 pub exact-refusal : (s : Sheet) → refusal (exact s) ≡ refusal s
@@ -79,9 +72,17 @@ module _ (s s′ : Sheet) (same : SameButSurplus s s′) where
   pub surplus-ask-refusal : (p q : ℕ) (plan circuit : List ℕ) → ask.askRefusal s p q plan circuit ≡ ask.askRefusal s′ p q plan circuit
   surplus-ask-refusal p q plan circuit = rw (surplus-refusal, ap nodes same)
 
-  -- THEOREM: and by Ends
+  -- THEOREM: by Ends
   pub surplus-ends-refusal : (first second : List ℕ) → ends.endsRefusal s first second ≡ ends.endsRefusal s′ first second
   surplus-ends-refusal first second = rw (surplus-refusal, ap nodes same)
+
+  -- THEOREM: with proposed times
+  pub surplus-times-refusal : (p q : ℕ) (list : List ℤ) → times.timesRefusal s p q list ≡ times.timesRefusal s′ p q list
+  surplus-times-refusal p q list = rw (surplus-refusal, ap nodes same)
+
+  -- THEOREM: and with proposed arcs
+  pub surplus-arcs-refusal : (p q : ℕ) (list : List ℕ) → arcs.arcsRefusal s p q list ≡ arcs.arcsRefusal s′ p q list
+  surplus-arcs-refusal p q list = rw surplus-refusal
 
   -- THEOREM: every outcome of Ask for the one is an outcome for the other, with the same answer and the same buffers
   pub surplus-ask : (p q : ℕ) (plan₀ circuit₀ : List ℕ) (a : Answer) (plan circuit : List ℕ) → ask.Outcome s p q plan₀ circuit₀ a plan circuit → ask.Outcome s′ p q plan₀ circuit₀ a plan circuit
@@ -108,3 +109,23 @@ module _ (s s′ : Sheet) (same : SameButSurplus s s′) where
       → ends.Agree a b
   surplus-ended first₀ second₀ a b first second first′ second′ x y =
       ended.outcome-same s′ first₀ second₀ a b first second first′ second′ (surplus-ends first₀ second₀ a first second x) y
+
+  -- THEOREM: every outcome for proposed times for the one is an outcome for the other, with the same answer
+  pub surplus-times : (p q : ℕ) (list : List ℤ) (a : Answer) → times.Outcome s p q list a → times.Outcome s′ p q list a
+  surplus-times p q list a x =
+      times-alike (exact s′) (s′ .tables) (s′ .schedule) (exact-refusal s′) (exact-back s′) p q list a
+      (subst (λ (t : Sheet). times.Outcome t p q list a) same (times-alike s (exact s .tables) (exact s .schedule) (sym (exact-refusal s)) (exact-alike s) p q list a x))
+
+  -- THEOREM: so what is answered for the one and for the other is equal
+  pub surplus-timed : (p q : ℕ) (list : List ℤ) (a b : Answer) → times.Outcome s p q list a → times.Outcome s′ p q list b → a ≡ b
+  surplus-timed p q list a b x y = timed.outcome-same s′ p q list a b (surplus-times p q list a x) y
+
+  -- THEOREM: every outcome for proposed arcs for the one is an outcome for the other, with the same answer
+  pub surplus-arcs : (p q : ℕ) (list : List ℕ) (a : Answer) → arcs.Outcome s p q list a → arcs.Outcome s′ p q list a
+  surplus-arcs p q list a x =
+      arcs-alike (exact s′) (s′ .tables) (s′ .schedule) (exact-refusal s′) (exact-back s′) p q list a
+      (subst (λ (t : Sheet). arcs.Outcome t p q list a) same (arcs-alike s (exact s .tables) (exact s .schedule) (sym (exact-refusal s)) (exact-alike s) p q list a x))
+
+  -- THEOREM: so what is answered for the one and for the other is equal
+  pub surplus-listed : (p q : ℕ) (list : List ℕ) (a b : Answer) → arcs.Outcome s p q list a → arcs.Outcome s′ p q list b → a ≡ b
+  surplus-listed p q list a b x y = listed.outcome-same s′ p q list a b (surplus-arcs p q list a x) y

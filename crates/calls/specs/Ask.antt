@@ -9,17 +9,13 @@ use lib.ListN.{getD, length, drop}
 use lib.IntN.{pos}
 use lib.Signed.{_≤ℤ_}
 use Rattle.theory.specs.Arcs.{Still, Rounds}
-use Rattle.tables.specs.Sheets.{Sheet, within, unless, refusal, otherwise}
+use Rattle.tables.specs.Sheets.{Sheet, timed, unless, refusal, otherwise}
 use Rattle.tables.specs.Answers.{Answer, answer}
 use Rattle.windows.specs.Windows.{Event}
 use Rattle.windows.specs.Inequalities.{Times, Solves, FromZero}
 use Rattle.windows.specs.Arcs.{node, nodes, continued, arcs}
 use Rattle.windows.specs.Circuits.{Step, Refutes}
 use Rattle.calls.specs.Circuits.{onto}
-
--- 10: "q 1..1000; p 0..1,000,000,000"
-abbrev pub timed : ℕ → ℕ → Bool
-timed p q = within 1000 q && leb p 1000000000
 
 -- 9: "it needs N places for a plan and 4N for a circuit, both always"
 abbrev pub roomy : Sheet → List ℕ → List ℕ → Bool

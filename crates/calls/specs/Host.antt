@@ -5,10 +5,9 @@ use mathlib.Core.Logic.{_⊎_}
 use mathlib.Core.Bool.{Bool, true, false}
 use mathlib.Core.List.{List}
 use Prim.Native.Nat.{ℕ}
-use Rattle.tables.specs.Sheets.{Sheet}
+use Rattle.tables.specs.Sheets.{Sheet, timed}
 use Rattle.sheet.specs.File.{Part, got, refused, sheetIn}
 use Rattle.windows.specs.Inequalities.{Runs}
-use Rattle.calls.specs.Ask.{timed}
 
 -- 0 exactly if the cycle time works, 100 exactly if it does not; 10 where p or q is past its limit
 abbrev pub Answers : Bool → Sheet → ℕ → ℕ → ℕ → Type 0

@@ -15,6 +15,7 @@ use Rattle.theory.specs.Circuits.{Fresh, Distinct, total, Walk, departures, Sma
 use Rattle.theory.specs.Ends.{Lowest, High, open-end, up-to, LowShown, at-zero, above-zero, HighShown, no-limit, limit, NoneShown, single, double}
 use Rattle.theory.proofs.Rounds.{still-later}
 use Rattle.theory.proofs.Loops.{still-works}
+use Rattle.tables.proofs.Laws.{clash}
 use Rattle.tables.specs.Sheets.{Sheet, absent, within}
 use Rattle.tables.proofs.Laws.{both, within-is}
 use Rattle.windows.specs.Arcs.{nodes, arcs}
@@ -24,9 +25,6 @@ use Rattle.calls.specs.Circuits.{CircuitOrNone}
 use Rattle.windows.proofs.Listed.{absent-some}
 use Rattle.windows.proofs.Laying.{arcs-within}
 use Rattle.windows.proofs.Steps.{valid-in}
-
-clash : true ≡ false → ⊥
-clash e = let z : _≡_ {A = ℕ} 0 1 = cc in omega arith
 
 -- ---- rounds
 

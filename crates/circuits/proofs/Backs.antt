@@ -10,7 +10,7 @@ use lib.Seq.{getD-set-same, getD-set-other}
 use Rattle.theory.specs.Circuits.{Fresh, Distinct}
 use Rattle.theory.proofs.Pigeon.{Below, pigeon}
 use Rattle.turns.specs.Rounds.{span}
-use Rattle.layout.specs.declared.Record.{Record}
+use Rattle.edges.specs.declared.Record.{Record}
 use Rattle.circuits.specs.Ways.{leaves, Marked, Shown, markAt, way, Led, LoopFound, LeastAt, part}
 
 -- ---- numbers of a list by their places

@@ -17,7 +17,7 @@ use Rattle.windows.specs.Windows.{number}
 use Rattle.windows.specs.Arcs.{nodes, arcs}
 use Rattle.windows.specs.Circuits.{Step, numbers, stepArc, Valid, AllValid, Refutes}
 use Rattle.windows.proofs.Steps.{valid-in, valid-join}
-use Rattle.layout.specs.declared.Record.{Record}
+use Rattle.edges.specs.declared.Record.{Record}
 use Rattle.layout.specs.Records.{listed}
 use Rattle.layout.proofs.Laying.{Modes}
 use Rattle.turns.specs.Rounds.{span, walked, MarkTold, Rose}

@@ -20,15 +20,16 @@ use Rattle.windows.specs.Circuits.{Step, stepArc, Valid}
 use Rattle.windows.proofs.Laying.{arcs-within}
 use Rattle.windows.proofs.Limits.{nodes-few}
 use Rattle.windows.proofs.Steps.{valid-in}
-use Rattle.layout.specs.declared.Edge.{Edge}
-use Rattle.layout.specs.declared.Record.{Record}
+use Rattle.edges.specs.declared.Edge.{Edge}
+use Rattle.edges.specs.declared.Record.{Record}
 use Rattle.layout.specs.Records.{listed}
-use Rattle.layout.specs.Edges.{byKind, edgeOf}
+use Rattle.edges.specs.Edges.{byKind, edgeOf}
 use Rattle.layout.proofs.Laying.{Modes}
-use Rattle.layout.proofs.Windows.{asRecord}
+use Rattle.edges.proofs.Places.{asRecord}
+use Rattle.edges.proofs.Edges.{weighed}
 use Rattle.turns.specs.declared.Site.{Site}
 use Rattle.turns.specs.Rounds.{Named, siteOf, walked, Limits, MarkTold, Rose}
-use Rattle.turns.proofs.Sheets.{weighed, Source, source, table-is}
+use Rattle.turns.proofs.Sheets.{Source, source, table-is}
 use Rattle.circuits.specs.Ways.{positionOf, recordOf, departureOf, leaves, Marked, markAt, way, Led}
 
 -- ---- a mark, read back

@@ -8,7 +8,7 @@ use lib.Seq.{sets}
 use Rattle.turns.specs.Rounds.{span}
 use Rattle.turns.proofs.Folds.{span-snoc}
 use Rattle.circuits.proofs.Backs.{part-length}
-use Rattle.layout.specs.declared.Record.{Record}
+use Rattle.edges.specs.declared.Record.{Record}
 use Rattle.circuits.specs.Ways.{quad, quads, part}
 
 pub sets-append : (xs ys l : List ℕ) (i k : ℕ) → i + length xs ≡ k → sets (sets l i xs) k ys ≡ sets l i (xs ++ ys)

@@ -6,9 +6,9 @@ use mathlib.Core.List.{List, [], _∷_, _++_}
 use Prim.Native.Nat.{ℕ, zero, suc, _+_, _-_, _*_, _/_, _%_, _≤_, _<_}
 use lib.ListN.{length, getD}
 use lib.Seq.{sets}
-use Rattle.layout.specs.declared.Record.{Record}
+use Rattle.edges.specs.declared.Record.{Record}
 use Rattle.layout.specs.Records.{listed}
-use Rattle.layout.specs.Edges.{edgeOf}
+use Rattle.edges.specs.Edges.{edgeOf}
 use Rattle.turns.specs.Rounds.{siteOf, span, Limits}
 
 -- A mark is one more than position·4608 + record, the position counted from 0: the position that it names,

@@ -17,13 +17,13 @@ fn record_of(mark: u32) -> usize
 }
 
 // The node that the marked arc leaves, which is that of the record w.
-fn departure(w: layout::Record, n: usize, positions: usize, mark: u32) -> usize
+fn departure(w: edges::Record, n: usize, positions: usize, mark: u32) -> usize
     requires { ⌜ Names w n positions mark ⌝ }
     ensures { λ r. ⌜ r ≡ departureOf w n positions mark ⌝ }
 {
     let position = (mark as usize - 1) / tables::PLACES;
     let at = turns::site_at(position, n, positions, 0, 0);
-    let arc = layout::edge_of(w, 0, at.here, at.next, 0);
+    let arc = edges::edge_of(w, 0, at.here, at.next, 0);
     arc.departure
 }
 
@@ -35,7 +35,7 @@ struct Stretch {
 
 // Goes back from the node v, which the last round raised, by the arc that each mark names, one row at a time, until a node is met again.
 fn back(
-    list: [layout::Record; tables::PLACES],
+    list: [edges::Record; tables::PLACES],
     n: usize,
     positions: usize,
     marks: &[u32],
@@ -81,7 +81,7 @@ fn least(node: &[u8], low: usize, high: usize) -> usize
 }
 
 // Writes the four numbers of an arc from a place of the circuit's buffer on.
-fn write_arc(circuit: &mut [u8], at: usize, w: layout::Record, position: u8)
+fn write_arc(circuit: &mut [u8], at: usize, w: edges::Record, position: u8)
     requires { ⌜ at + 4 ≤ length (now circuit) ⌝ }
     ensures { λ _. ⌜ now (circuit .exit) ≡ sets (now (circuit .entry)) at (w .kind ∷ position ∷ w .to ∷ w .from ∷ []) ⌝ }
 {
@@ -93,7 +93,7 @@ fn write_arc(circuit: &mut [u8], at: usize, w: layout::Record, position: u8)
 
 // Writes the arcs that m marks of the path name, from `a` on, as arcs of the circuit from `at` on.
 fn write(
-    list: [layout::Record; tables::PLACES],
+    list: [edges::Record; tables::PLACES],
     path: &[u32],
     a: usize,
     m: usize,
@@ -115,7 +115,7 @@ fn write(
 
 // Writes the closed stretch of a path as a circuit, beginning with the arc that leaves the smallest node.
 fn turn(
-    list: [layout::Record; tables::PLACES],
+    list: [edges::Record; tables::PLACES],
     path: &[u32],
     node: &[u8],
     low: usize,
@@ -132,7 +132,7 @@ fn turn(
 
 // Writes a circuit from the marks of the rounds into the buffer, and gives the count of its arcs.
 pub fn refute(
-    list: [layout::Record; tables::PLACES],
+    list: [edges::Record; tables::PLACES],
     n: usize,
     positions: usize,
     marks: &[u32],

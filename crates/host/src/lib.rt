@@ -5,8 +5,7 @@ use ask::Asked;
 use reader::Read;
 ghost use mathlib.Core.Path.{_≡_};
 ghost use lib.ListN.{length};
-ghost use Rattle.tables.specs.Sheets.{sheet, refusal};
-ghost use Rattle.calls.specs.Ask.{timed};
+ghost use Rattle.tables.specs.Sheets.{sheet, refusal, timed};
 ghost use Rattle.ask.specs.Answers.{answerAsked};
 ghost use Rattle.calls.specs.Host.{Answers, Verdict};
 

@@ -1,14 +1,13 @@
 -- Where the modes' records begin: one mode more is counted behind those before it.
 use mathlib.Core.Path.{_≡_, refl, _∙_}
 use mathlib.Core.List.{List}
-use Prim.Native.Nat.{ℕ, zero, suc, _+_, _-_, _*_, _≤_, _<_}
+use Prim.Native.Nat.{ℕ, zero, suc, _+_, _-_, _<_}
 use native.Mathlib.Omega.{arith}
-use native.Mathlib.Nat.{mul-le-mul, mul-le-mul-right}
 use native.Mathlib.Decide.{ℕ-discrete}
 use native.Mathlib.Numerals.{add-one}
 use lib.IntN.{ℤ}
-use lib.ListN.{length, getD, set, take, drop, replicate, length-append, length-drop}
-use lib.Seq.{getD-set-same, getD-set-other, take-all}
+use lib.ListN.{length, getD, set, replicate, length-append}
+use lib.Seq.{getD-set-same, getD-set-other}
 use Rattle.layout.specs.Records.{modeRecords, laidOut, Starts}
 
 pub starts-none : (tables : List ℤ) (n : ℕ) → Starts tables n (replicate 9 0) 0
@@ -24,15 +23,3 @@ starts-more tables n start t s w e h j p =
       | yes x ↦ rw (x, getD-set-same start (t + 1) (getD start t 0 + w) 0 h, add-one t, length-append (laidOut tables n t) (modeRecords tables n t), s t (omega arith), e)
       | no x ↦ getD-set-other start (t + 1) j (getD start t 0 + w) 0 x ∙ s j (omega arith)
     ]
-
--- the sizes in a turn: a mode's part lies within the tables
-pub record Sizes (t m n : ℕ) : Type 0 where
-  pub part : t * (4 * (n * n)) + 4 * (n * n) ≤ m * (4 * (n * n))
-  pub whole : m * (4 * (n * n)) ≤ 4608
-
-pub sizes : (t m n : ℕ) → n ≤ 12 → m ≤ 8 → t < m → Sizes t m n
-sizes t m n h g l = record { part = omega (arith, mul-le-mul-right (4 * (n * n)) l); whole = mul-le-mul g (mul-le-mul {n₁ = 4} {n₂ = 4} (omega arith) (mul-le-mul h h)) }
-
--- what is lent from a on is all of the rest
-pub rest : (a : ℕ) (xs : List ℤ) → take (length xs - a) (drop a xs) ≡ drop a xs
-rest a xs = take-all (length xs - a) (drop a xs) (omega (arith, length-drop a xs))

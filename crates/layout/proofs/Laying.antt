@@ -3,17 +3,17 @@
 use mathlib.Core.Path.{_≡_, refl, sym, ap, _∙_}
 use mathlib.Core.Bool.{Bool, true, false, cond}
 use mathlib.Core.List.{List, [], _∷_, _++_, append-assoc, append-nil}
-use Prim.Native.Nat.{ℕ, zero, suc, _+_, _-_, _*_, _/_, _≤_, _<_}
+use Prim.Native.Nat.{ℕ, zero, suc, _+_, _-_, _*_, _≤_, _<_}
 use native.Mathlib.Omega.{arith}
-use native.Mathlib.Nat.{mul-pos, div-lt-iff-lt-mul}
 use native.Mathlib.Decide.{decLt}
 use native.Mathlib.Numerals.{add-one}
 use lib.IntN.{ℤ, pos}
 use lib.ListN.{length, getD, set, drop, replicate, length-set, length-append, length-replicate, List·getD-append}
 use lib.Seq.{getD-set-same, getD-set-other, getD-append-seam, getD-append-add}
 use Rattle.tables.specs.Sheets.{absent}
-use Rattle.layout.specs.declared.Record.{Record}
-use Rattle.layout.specs.Records.{fromPlace, recordsIn, modeRecords, laidOut, blank, listed, Laid, Starts, Ahead}
+use Rattle.edges.specs.declared.Record.{Record}
+use Rattle.edges.specs.Edges.{fromPlace}
+use Rattle.layout.specs.Records.{recordsIn, modeRecords, laidOut, blank, listed, Laid, Starts, Ahead}
 
 -- ---- the records of a part
 
@@ -48,10 +48,6 @@ records-few part n zero = omega arith
 records-few part n (suc k) =
     let v = getD part k (pos 0) in
     omega (arith, records-few part n k, length-append (recordsIn part n k) (cond (absent v) [] (fromPlace n k v ∷ [])), cell-few (absent v) (fromPlace n k v))
-
--- the kind of a place
-pub kind-few : (n k : ℕ) → 0 < n → k < 4 * (n * n) → k / (n * n) < 4
-kind-few n k h l = div-lt-iff-lt-mul (mul-pos h h) .1 l
 
 pub mode-few : (tables : List ℤ) (n t : ℕ) → length (modeRecords tables n t) ≤ 4 * (n * n)
 unfolding modeRecords

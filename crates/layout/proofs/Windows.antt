@@ -3,27 +3,18 @@
 use mathlib.Core.Path.{_≡_, refl, sym, ap, ap₂, _∙_}
 use mathlib.Core.Bool.{Bool, true, false, cond}
 use mathlib.Core.List.{List, [], _∷_, _++_, map, map-append, append-assoc, append-nil}
-use Prim.Native.Nat.{ℕ, zero, suc, _+_, _-_, _*_, _/_, _%_, _≤_, _<_}
+use Prim.Native.Nat.{ℕ, zero, suc, _+_, _-_, _*_, _≤_, _<_}
 use native.Mathlib.Omega.{arith}
-use native.Mathlib.Nat.{mul-pos, mul-le-mul-right, mul-add-div-right, mul-add-mod-self-right, div-eq-of-lt, mod-eq-of-lt}
 use lib.IntN.{ℤ, pos}
 use lib.ListN.{length, getD, drop}
-use lib.Seq.{getD-drop}
-use Rattle.tables.specs.Sheets.{Sheet, noWindow, absent, place, places}
+use Rattle.tables.specs.Sheets.{Sheet, absent, place, places}
 use Rattle.windows.specs.Windows.{Kind, A0, B0, A1, B1, number, Window, entry}
 use Rattle.windows.specs.Arcs.{oneTo, each, kinds, unlessAbsent, windowAt, windowsTo, windowsOf, windows}
 use Rattle.windows.proofs.Listed.{each-same, each-more}
-use Rattle.windows.proofs.Limits.{number-small, place-below, getD-any}
-use Rattle.layout.specs.declared.Record.{Record}
-use Rattle.layout.specs.Records.{fromPlace, recordsIn, modeRecords}
-
--- a window as a record
-abbrev pub asRecord : Window → Record
-asRecord a = record { kind = number (a .kind); to = a .to; from = a .from; w = a .w }
-
--- the window of a blank record
-abbrev pub nothing : Window
-nothing = record { kind = A0; to = 0; from = 0; w = pos 0 }
+use Rattle.edges.specs.declared.Record.{Record}
+use Rattle.edges.specs.Edges.{fromPlace}
+use Rattle.edges.proofs.Places.{asRecord, kind-at, to-at, from-at, value-at}
+use Rattle.layout.specs.Records.{recordsIn, modeRecords}
 
 each-map : {A B C : Type 0} (f : A → B) (cs : List C) (g : C → List A) → each cs (λ c. map f (g c)) ≡ map f (each cs g)
 each-map f [] g = refl
@@ -72,27 +63,6 @@ four f m a b c d p q r t =
     none zero e = refl
     none (suc k) e = absurd (omega arith)
 
--- ---- the place of kind, to, from in a mode's part
-module _ (n k i j : ℕ) (to : i < n) (from : j < n) where
-  inside : i * n + j < n * n
-  inside = omega (arith, mul-le-mul-right {m = suc i} {n = n} n to)
-
-  again : k * (n * n) + (i * n + j) ≡ (k * n + i) * n + j
-  again = omega arith
-
-  kind-at : (k * (n * n) + (i * n + j)) / (n * n) ≡ k
-  kind-at = mul-add-div-right {m = n * n} (mul-pos (omega arith) (omega arith)) k (i * n + j) ∙ omega (arith, div-eq-of-lt inside)
-
-  to-at : (k * (n * n) + (i * n + j)) / n % n ≡ i
-  to-at =
-      ap (λ (x : ℕ). x / n % n) again
-      ∙ ap (λ (x : ℕ). x % n) (mul-add-div-right {m = n} (omega arith) (k * n + i) j ∙ omega (arith, div-eq-of-lt from))
-      ∙ mul-add-mod-self-right k n i
-      ∙ mod-eq-of-lt to
-
-  from-at : (k * (n * n) + (i * n + j)) % n ≡ j
-  from-at = ap (λ (x : ℕ). x % n) again ∙ mul-add-mod-self-right (k * n + i) n j ∙ mod-eq-of-lt from
-
 -- what the code looks at in each place
 cell : List ℤ → ℕ → ℕ → List Record
 cell part n k = let w = getD part k (pos 0) in cond (absent w) [] (fromPlace n k w ∷ [])
@@ -107,32 +77,14 @@ unless-record : (b : Bool) (a : Window) → map asRecord (unlessAbsent b a) ≡ 
 unless-record true a = refl
 unless-record false a = refl
 
-place-at : (n t k i j : ℕ) → t * (4 * (n * n)) + (k * (n * n) + (i * n + j)) ≡ place n t k (suc i) (suc j)
-place-at n t k i j = plain ∙ ap₂ (λ (x y : ℕ). ((4 * t + k) * n + x) * n + y) (less i) (less j)
-  where
-    plain : t * (4 * (n * n)) + (k * (n * n) + (i * n + j)) ≡ ((4 * t + k) * n + i) * n + j
-    plain = omega arith
-
-    less : (x : ℕ) → x ≡ suc x - 1
-    less x = omega arith
-
 module _ (s : Sheet) (t : ℕ) (mode : t < s .m) (long : places (s .n) (s .m) ≤ length (s .tables)) where
   part : List ℤ
   part = drop (t * (4 * (s .n * s .n))) (s .tables)
 
-  value-at : (k : Kind) (i j : ℕ) → i < s .n → j < s .n → getD part (number k * (s .n * s .n) + (i * s .n + j)) (pos 0) ≡ entry s t k (suc i) (suc j)
-  unfolding part
-  value-at k i j to from =
-      let below = place-below (s .n) (s .m) t (number k) (suc i) (suc j) mode (number-small k) (omega arith) to (omega arith) from in
-      let same = place-at (s .n) t (number k) i j in
-      getD-drop (t * (4 * (s .n * s .n))) (s .tables) (number k * (s .n * s .n) + (i * s .n + j)) (pos 0)
-      ∙ ap (λ (x : ℕ). getD (s .tables) x (pos 0)) same
-      ∙ getD-any (s .tables) (place (s .n) t (number k) (suc i) (suc j)) (pos 0) noWindow (omega arith)
-
   cell-at : (k : Kind) (i j : ℕ) → i < s .n → j < s .n → cell part (s .n) (number k * (s .n * s .n) + (i * s .n + j)) ≡ map asRecord (windowAt s t k (suc i) (suc j))
-  unfolding cell
+  unfolding cell part
   cell-at k i j to from =
-      rw (value-at k i j to from, kind-at (s .n) (number k) i j to from, to-at (s .n) (number k) i j to from, from-at (s .n) (number k) i j to from, one i, one j)
+      rw (value-at s t mode long k i j to from, kind-at (s .n) (number k) i j to from, to-at (s .n) (number k) i j to from, from-at (s .n) (number k) i j to from, one i, one j)
       (sym (unless-record (absent (entry s t k (suc i) (suc j))) (record { kind = k; to = suc i; from = suc j; w = entry s t k (suc i) (suc j) })))
     where
       one : (x : ℕ) → x + 1 ≡ suc x

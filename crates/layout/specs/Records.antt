@@ -3,15 +3,12 @@
 use mathlib.Core.Path.{_≡_}
 use mathlib.Core.Bool.{true, false, cond}
 use mathlib.Core.List.{List, [], _∷_, _++_}
-use Prim.Native.Nat.{ℕ, zero, suc, _+_, _*_, _/_, _%_, _≤_, _<_}
+use Prim.Native.Nat.{ℕ, zero, suc, _*_, _≤_, _<_}
 use lib.IntN.{ℤ, pos}
 use lib.ListN.{length, getD, drop}
 use Rattle.tables.specs.Sheets.{absent}
-use Rattle.layout.specs.declared.Record.{Record}
-
--- the record of the place k of a mode's part of the tables, where the limit w stands
-abbrev pub fromPlace : ℕ → ℕ → ℤ → Record
-fromPlace n k w = record { kind = k / (n * n); to = k / n % n + 1; from = k % n + 1; w = w }
+use Rattle.edges.specs.declared.Record.{Record}
+use Rattle.edges.specs.Edges.{fromPlace}
 
 -- the records of the windows at the first k places of a mode's part: rising places are rising kind, to, from
 unfoldable pub recordsIn : List ℤ → ℕ → ℕ → List Record

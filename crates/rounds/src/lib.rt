@@ -22,7 +22,7 @@ fn zeros() -> [u64; tables::NODES]
 
 // Runs rounds from table 0, which is all zeros, until one changes nothing, or N of them. Row r of the marks is that of round r + 1.
 pub fn run(
-    list: [layout::Record; tables::PLACES],
+    list: [edges::Record; tables::PLACES],
     job: turns::Job,
     schedule: &[u8],
     marks: &mut [u32],

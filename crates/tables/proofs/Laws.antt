@@ -27,7 +27,8 @@ pub yes : (a b : Bool) → a ≡ true → b ≡ true → (a && b) ≡ true
 yes true b e f = f
 yes false b e f = e
 
-clash : true ≡ false → ⊥
+-- a test does not come out both ways
+pub clash : true ≡ false → ⊥
 clash e = let z : _≡_ {A = ℕ} 0 1 = cc in omega arith
 
 -- ---- lists

@@ -55,6 +55,10 @@ all f (a ∷ rest) = f a && all f rest
 abbrev pub within : ℕ → ℕ → Bool
 within most k = leb 1 k && leb k most
 
+-- 10: "q 1..1000; p 0..1,000,000,000"
+abbrev pub timed : ℕ → ℕ → Bool
+timed p q = within 1000 q && leb p 1000000000
+
 -- "Longer buffers than needed are allowed; the surplus is neither read nor written." The sheet without its surplus: 4·m·n² places of the tables and
 -- V of the schedule. Of lists that are shorter, all that is there.
 abbrev pub exact : Sheet → Sheet

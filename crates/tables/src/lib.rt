@@ -1,12 +1,12 @@
 // A sheet in memory: n, m, V, the tables of its windows and its schedule.
-// This crate knows what is admitted there (refusals 4, 5 and 6); it knows no file and no plan.
+// This crate knows what is admitted there (refusals 4, 5 and 6), and which cycle times are (10); it knows no file and no plan.
 // It renders document 01's "Numbers and room".
 ghost use mathlib.Core.Path.{_≡_};
 ghost use mathlib.Core.Bool.{_&&_};
 ghost use Prim.Native.Nat.{_≤_};
 ghost use lib.Dec.{leb, ltb};
 ghost use lib.ListN.{length, take};
-ghost use Rattle.tables.specs.Sheets.{within, admits, absent, all, sheet, sized, refusal};
+ghost use Rattle.tables.specs.Sheets.{within, admits, absent, all, sheet, sized, refusal, timed};
 
 // "Numbers and room": four kinds; n 1..12; m 1..8; V 1..16; w -1,000,000..1,000,000; and "no window".
 pub const KINDS: usize = 4;
@@ -21,6 +21,11 @@ pub const MOST_LIMIT: i32 = 1000000;
 
 pub const NO_WINDOW: i32 = -2147483648;
 
+// "q 1..1000; p 0..1,000,000,000".
+pub const MOST_Q: u64 = 1000;
+
+pub const MOST_P: u64 = 1000000000;
+
 // The most nodes, V·n of them.
 pub const NODES: usize = MOST_POSITIONS * MOST_EVENTS;
 
@@ -31,7 +36,7 @@ pub const PLACES: usize = KINDS * MOST_MODES * (MOST_EVENTS * MOST_EVENTS);
 pub const CIRCUIT: usize = 4 * NODES;
 
 // Whether a number lies from 1 to the most that it may be.
-fn is_within(most: usize, number: usize) -> bool
+pub fn is_within(most: usize, number: usize) -> bool
     ensures { λ r. ⌜ r ≡ within most number ⌝ }
 {
     1 <= number && number <= most
@@ -120,6 +125,19 @@ pub fn judge(n: usize, m: usize, positions: usize, tables: &[i32], schedule: &[u
         return 6;
     }
     0
+}
+
+// Whether p and q lie within their limits: refusal 10.
+pub fn is_timed(p: u64, q: u64) -> bool
+    ensures { λ r. ⌜ r ≡ timed p q ⌝ }
+{
+    if q < 1 {
+        return false;
+    }
+    if MOST_Q < q {
+        return false;
+    }
+    p <= MOST_P
 }
 
 // Whether two buffers have the places that are needed of each: 9, "a buffer to be written is too short".

@@ -8,10 +8,10 @@ use borrow.Author.Tests.{lt-ltb, le-ltb}
 use lib.ListN.{length, getD, set, take, drop}
 use lib.Seq.{drop-cons}
 use Rattle.windows.specs.Arcs.{up, down}
-use Rattle.layout.specs.declared.Edge.{Edge}
-use Rattle.layout.specs.declared.Record.{Record}
+use Rattle.edges.specs.declared.Edge.{Edge}
+use Rattle.edges.specs.declared.Record.{Record}
 use Rattle.layout.specs.Records.{blank, listed}
-use Rattle.layout.specs.Edges.{byKind}
+use Rattle.edges.specs.Edges.{byKind}
 use Rattle.turns.specs.declared.Site.{Site}
 use Rattle.turns.specs.Rounds.{Named, named, Board, board, asks, raise, after, span, passed, Able, Fine}
 

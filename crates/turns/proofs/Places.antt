@@ -9,7 +9,7 @@ use native.Mathlib.Numerals.{add-one}
 use borrow.Author.Tests.{eqb-false}
 use lib.Dec.{eqb}
 use lib.ListN.{getD}
-use Rattle.layout.specs.declared.Record.{Record}
+use Rattle.edges.specs.declared.Record.{Record}
 use Rattle.layout.specs.Records.{listed}
 use Rattle.turns.specs.declared.Site.{Site}
 use Rattle.turns.specs.Rounds.{Named, named, siteOf, Board, after, span, walked, Parts, Limits}

@@ -4,36 +4,34 @@ use mathlib.Core.Path.{_≡_, refl, sym, ap, ap₂, _∙_, subst}
 use mathlib.Core.Logic.{inl, inr}
 use mathlib.Core.Bool.{Bool, true, false, cond}
 use mathlib.Core.List.{List, [], _∷_, _++_, map, List·Memᴰ, List·Memᴰ·head, List·Memᴰ·tail, List·Memᴰ·not-nil, List·Memᴰ·append-cases}
-use Prim.Native.Nat.{ℕ, zero, suc, pred, _+_, _-_, _*_, _/_, _%_, _≤_, _<_, max}
+use Prim.Native.Nat.{ℕ, zero, suc, _+_, _-_, _*_, _/_, _≤_, _<_, max}
 use native.Mathlib.Omega.{arith}
-use native.Mathlib.Nat.{mod-eq-of-lt, div-eq-of-lt, mod-self, div-self, mul-le-mul-right}
+use native.Mathlib.Nat.{mod-eq-of-lt, mul-le-mul-right}
 use native.Mathlib.Decide.{ℕ-discrete, decLt}
 use native.Mathlib.Numerals.{add-one}
-use borrow.Author.Tests.{eqb-true, eqb-false}
 use lib.Dec.{eqb}
-use lib.IntN.{ℤ, pos}
+use lib.IntN.{pos}
 use lib.ListN.{length, getD, length-map, List·getD-map}
 use Rattle.theory.specs.Arcs.{Arc, rise, fall, only, most, table}
 use Rattle.tables.specs.Sheets.{Sheet, noWindow, place, places, admits}
 use Rattle.tables.specs.Admitted.{Admitted}
 use Rattle.tables.proofs.Laws.{few-places}
-use Rattle.windows.specs.Windows.{Kind, A0, B0, A1, B1, number, Window, Event, Has, mode}
+use Rattle.windows.specs.Windows.{number, Window, Event, Has, mode}
 use Rattle.windows.specs.Arcs.{up, down, arcOf, oneTo, each, windows, arcsAt, arcs}
 use Rattle.windows.proofs.Listed.{each-more, windows-of}
 use Rattle.windows.proofs.Limits.{number-small, place-below, getD-any, admits-limit}
-use Rattle.layout.specs.declared.Edge.{Edge}
-use Rattle.layout.specs.declared.Record.{Record}
+use Rattle.edges.specs.declared.Edge.{Edge}
+use Rattle.edges.specs.declared.Record.{Record}
 use Rattle.layout.specs.Records.{listed, modeRecords}
-use Rattle.layout.specs.Edges.{edge, byKind, edgeOf}
+use Rattle.edges.specs.Edges.{edgeOf, edgeAt}
+use Rattle.edges.proofs.Places.{asRecord, nothing}
+use Rattle.edges.proofs.Edges.{weighed, edge-is}
 use Rattle.layout.proofs.Laying.{Modes}
-use Rattle.layout.proofs.Windows.{asRecord, nothing, mode-records}
+use Rattle.layout.proofs.Windows.{mode-records}
 use Rattle.turns.specs.declared.Site.{Site}
 use Rattle.turns.specs.Rounds.{Named, named, siteOf, asks, span, walked, mostOf, tableOf, Fine, Parts}
 
 -- ---- the arcs of the list and the arcs of the theory
-abbrev pub weighed : ℕ → ℕ → Arc → Edge
-weighed p q a = edge (a .departure) (a .arrival) (rise p q a) (fall p q a)
-
 -- the named arcs are the theory's, one by one
 abbrev Match : ℕ → ℕ → List Named → List Arc → Type 0
 Match p q [] [] = Unit {0}
@@ -80,72 +78,15 @@ module _ (p q : ℕ) where
       ap₂ max (match-table us bs m r v) (match-most us bs m (tableOf us r) v ∙ most-same bs (tableOf us r) (table bs p q r) (match-table us bs m r) v)
 
 -- ---- a record at a position is the window's arc there
-
-spot : (x i : ℕ) → 1 ≤ i → x + i - 1 ≡ x + pred i
-spot x zero h = absurd (omega arith)
-spot x (suc i) h = omega arith
-
-edge-same : (d d′ a a′ u u′ w w′ : ℕ) → d ≡ d′ → a ≡ a′ → u ≡ u′ → w ≡ w′ → edge d a u w ≡ edge d′ a′ u′ w′
-edge-same d d′ a a′ u u′ w w′ x y z t = rw (x, y, z, t)
-
--- where the position g + 1 stands, as the theory counts
-record Stood (at : Site) (n positions p q g : ℕ) : Type 0 where
-  steps : at .q ≡ q
-  here : at .here ≡ g % positions * n
-  next : at .next ≡ suc g % positions * n
-  cross : at .cross ≡ p * (suc g / positions)
-  first : g / positions ≡ 0
-
-stood : (g n positions p q : ℕ) → g < positions → Stood (siteOf g n positions p q) n positions p q g
-unfolding siteOf
-stood g n positions p q h = go (eqb (g + 1) positions) refl
+site-edge : (s : Sheet) (p q g : ℕ) → g < s .positions → (a : Window) → 1 ≤ a .to → 1 ≤ a .from → let at = siteOf g (s .n) (s .positions) p q in
+    edgeOf (asRecord a) (at .q) (at .here) (at .next) (at .cross) ≡ weighed p q (arcOf s (suc g) a)
+unfolding siteOf edgeAt
+site-edge s p q g h a to from = same (eqb (g + 1) (s .positions)) ∙ edge-is s p q g h a to from
   where
-    low : g * n ≡ g % positions * n
-    low = ap (λ (x : ℕ). x * n) (sym (mod-eq-of-lt h))
-
-    go : (b : Bool) → eqb (g + 1) positions ≡ b → Stood (cond b (record { here = g * n; next = 0; cross = p; q = q; mark = g * 4608 }) (record { here = g * n; next = (g + 1) * n; cross = 0; q = q; mark = g * 4608 })) n positions p q g
-    go true e =
-        let last : suc g ≡ positions = omega (arith, eqb-true (g + 1) positions e) in
-        let some : 0 < positions = omega arith in
-        let again : suc g % positions ≡ 0 = ap (λ (x : ℕ). x % positions) last ∙ mod-self positions in
-        record {
-          steps = refl;
-          here = low;
-          next = rw again (omega arith);
-          cross = omega (arith, ap (λ (x : ℕ). p * x) (ap (λ (x : ℕ). x / positions) last ∙ div-self some));
-          first = div-eq-of-lt h;
-        }
-    go false e =
-        let other = eqb-false (g + 1) positions e in
-        let more : suc g < positions = omega arith in
-        record {
-          steps = refl;
-          here = low;
-          next = ap (λ (x : ℕ). x * n) (add-one g ∙ sym (mod-eq-of-lt more));
-          cross = omega (arith, ap (λ (x : ℕ). p * x) (div-eq-of-lt more));
-          first = div-eq-of-lt h;
-        }
-
-module _ (s : Sheet) (p q g : ℕ) (at : Site) (o : Stood at (s .n) (s .positions) p q g) where
-  here-at : (i : ℕ) → 1 ≤ i → at .here + i - 1 ≡ g % s .positions * s .n + pred i
-  here-at i h = spot (at .here) i h ∙ ap (λ (x : ℕ). x + pred i) (o .here)
-
-  next-at : (i : ℕ) → 1 ≤ i → at .next + i - 1 ≡ suc g % s .positions * s .n + pred i
-  next-at i h = spot (at .next) i h ∙ ap (λ (x : ℕ). x + pred i) (o .next)
-
-  stays : (x : ℕ) → at .q * x ≡ q * x + p * (g / s .positions)
-  stays x = ap (λ (y : ℕ). y * x) (o .steps) ∙ omega (arith, ap (λ (y : ℕ). p * y) (o .first))
-
-  crosses : (x : ℕ) → at .q * x + at .cross ≡ q * x + p * (suc g / s .positions)
-  crosses x = ap₂ (λ (y z : ℕ). y * x + z) (o .steps) (o .cross)
-
-  window-edge : (k : Kind) (i j : ℕ) (w : ℤ) → 1 ≤ i → 1 ≤ j
-      → edgeOf (asRecord (record { kind = k; to = i; from = j; w = w })) (at .q) (at .here) (at .next) (at .cross) ≡ weighed p q (arcOf s (suc g) (record { kind = k; to = i; from = j; w = w }))
-  unfolding byKind
-  window-edge A0 i j w a b = edge-same _ _ _ _ _ _ _ _ (here-at j b) (here-at i a) (stays (up w)) (stays (down w))
-  window-edge B0 i j w a b = edge-same _ _ _ _ _ _ _ _ (here-at i a) (here-at j b) (stays (down w)) (stays (up w))
-  window-edge A1 i j w a b = edge-same _ _ _ _ _ _ _ _ (here-at j b) (next-at i a) (stays (up w)) (crosses (down w))
-  window-edge B1 i j w a b = edge-same _ _ _ _ _ _ _ _ (next-at i a) (here-at j b) (crosses (down w)) (stays (up w))
+    same : (b : Bool) → let at = cond {A = Site} b (record { here = g * s .n; next = 0; cross = p; q = q; mark = g * 4608 }) (record { here = g * s .n; next = (g + 1) * s .n; cross = 0; q = q; mark = g * 4608 }) in
+        edgeOf (asRecord a) (at .q) (at .here) (at .next) (at .cross) ≡ cond b (edgeOf (asRecord a) q (g * s .n) 0 p) (edgeOf (asRecord a) q (g * s .n) ((g + 1) * s .n) 0)
+    same true = refl
+    same false = refl
 
 -- ---- the list of a sheet
 getD-in : {A : Type 0} (l : List A) (i : ℕ) (d : A) → i < length l → List·Memᴰ (getD l i d) l
@@ -181,7 +122,7 @@ module _ (s : Sheet) (ok : Admitted s) (p q : ℕ) (l : List Record) (start : Li
       let at = siteOf g (s .n) (s .positions) p q in
       let e = has g i k j in
       ap (λ (x : Record). edgeOf x (at .q) (at .here) (at .next) (at .cross)) (records t i (ok .modes g k) j)
-      ∙ window-edge s p q g at (stood g (s .n) (s .positions) p q k) (a .kind) (a .to) (a .from) (a .w) (e .to-event .0) (e .from-event .0)
+      ∙ site-edge s p q g k a (e .to-event .0) (e .from-event .0)
 
   -- THEOREM: the arcs that a round walks are the sheet's arcs
   walked-match : (g : ℕ) → g ≤ s .positions → Match p q (walked l start (s .schedule) (s .n) (s .positions) p q g) (each (oneTo g) (arcsAt s))

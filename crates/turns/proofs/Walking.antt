@@ -8,7 +8,7 @@ use native.Mathlib.Nat.{mul-le-mul-right, mul-pos}
 use native.Mathlib.Decide.{decLt}
 use lib.ListN.{length, getD, take, drop, length-drop}
 use lib.Seq.{length-take-le, getD-take, getD-drop}
-use Rattle.layout.specs.declared.Record.{Record}
+use Rattle.edges.specs.declared.Record.{Record}
 use Rattle.layout.specs.Records.{blank, listed}
 use Rattle.turns.specs.declared.Job.{Job}
 use Rattle.turns.specs.declared.Turn.{Turn}

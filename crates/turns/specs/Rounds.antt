@@ -10,10 +10,10 @@ use native.Mathlib.Decide.{ℕ-discrete}
 use lib.Dec.{ltb, eqb}
 use lib.ListN.{length, getD, set, drop}
 use Rattle.theory.specs.Arcs.{only}
-use Rattle.layout.specs.declared.Edge.{Edge}
-use Rattle.layout.specs.declared.Record.{Record}
+use Rattle.edges.specs.declared.Edge.{Edge}
+use Rattle.edges.specs.declared.Record.{Record}
 use Rattle.layout.specs.Records.{listed}
-use Rattle.layout.specs.Edges.{edgeOf}
+use Rattle.edges.specs.Edges.{edgeOf}
 use Rattle.windows.specs.Arcs.{up, down}
 use Rattle.turns.specs.declared.Job.{Job}
 use Rattle.turns.specs.declared.Site.{Site}

@@ -100,20 +100,13 @@ fn mark_at(first: usize, k: usize) -> u32
 }
 
 // The arc of a record, the i-th of those of the turn, raises the time at its arrival, where that is more than the new table has there.
-pub fn step(
-    w: layout::Record,
-    turn: Turn,
-    i: usize,
-    old: &[u64],
-    new: &mut [u64],
-    marks: &mut [u32],
-)
+pub fn step(w: edges::Record, turn: Turn, i: usize, old: &[u64], new: &mut [u64], marks: &mut [u32])
     requires { ⌜ Able w (turn .at) (turn .first + i) (now old) (now new) (now marks) (turn .round * 192) ⌝ }
     ensures { λ _. ⌜ board (now (new .exit)) (now (marks .exit)) ≡ raise (now (old .entry)) (turn .round * 192) (named w (turn .at) (turn .first + i)) (board (now (new .entry)) (now (marks .entry))) ⌝ }
 {
     let at = turn.at;
     let mark = mark_at(at.mark, turn.first + i);
-    let e = layout::edge_of(w, at.q, at.here, at.next, at.cross);
+    let e = edges::edge_of(w, at.q, at.here, at.next, at.cross);
     let departure = e.departure;
     let arrival = e.arrival;
     let most = less(old[departure] + e.rise, e.fall);

@@ -24,9 +24,9 @@ use denote.Laws.{Is, shows}
 use denote.Memory.{cellAt, partAt, partOf, shares}
 use denote.Steps.{only, peeks}
 use denote.Struct.Laws as LL
-use Rattle.layout.specs.declared.Record.{Record}
-use Rattle.layout.proofs.Record as T
-use Rattle.layout.proofs.Record.Laws as T′
+use Rattle.edges.specs.declared.Record.{Record}
+use Rattle.edges.proofs.Record as T
+use Rattle.edges.proofs.Record.Laws as T′
 
 abbrev R : RattleType
 R = T.the-row

@@ -9,7 +9,7 @@ ghost use Rattle.turns.specs.Rounds.{Able, board, after, passed, roundOf, turnO
 
 // The records of a turn, lent as a part of the list, one after the other.
 fn pass(
-    records: &[layout::Record],
+    records: &[edges::Record],
     turn: turns::Turn,
     old: &[u64],
     new: &mut [u64],
@@ -27,7 +27,7 @@ fn pass(
 
 // Walks the list, the part of a position's mode at each turn, while turns are left.
 pub fn walk(
-    list: [layout::Record; tables::PLACES],
+    list: [edges::Record; tables::PLACES],
     begin: turns::Turn,
     job: turns::Job,
     schedule: &[u8],

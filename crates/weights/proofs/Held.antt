@@ -17,10 +17,10 @@ use Rattle.tables.specs.Sheets.{Sheet, refusal}
 use Rattle.tables.proofs.Laws.{accepted}
 use Rattle.windows.specs.Windows.{Kind, A0, B0, A1, B1, number}
 use Rattle.windows.specs.Arcs.{up, down, period, arc, nodes, arcs}
-use Rattle.windows.specs.Circuits.{Step, numbers, limit, stepArc, Valid, AllValid, CircuitOf}
+use Rattle.windows.specs.Circuits.{Step, numbers, Stands, limit, stepArc, Valid, AllValid, CircuitOf}
 use Rattle.windows.proofs.Laying.{arcs-within}
 use Rattle.windows.proofs.Limits.{number-small, nodes-few}
-use Rattle.windows.proofs.Numbers.{numbers-length, Holds, numbers-at}
+use Rattle.windows.proofs.Numbers.{numbers-length, numbers-at}
 use Rattle.weights.specs.Weights.{weight, kindWeight, weightOf, weightAt, plus, weightsIn, NamesAt, Lists}
 use Rattle.limits.specs.declared.Weight.{Weight}
 
@@ -52,10 +52,10 @@ module _ (s : Sheet) (c : Step) (v : Valid s c) where
   weight-is : weightOf s (number (c .kind)) (c .position) (c .to) (c .from) ≡ arcWeight (stepArc s c)
   weight-is = by-kind (c .kind) (c .to) (c .from) (limit s c)
 
-  weight-held : (circuit : List ℕ) (k : ℕ) → Holds circuit k c → weightAt s circuit k ≡ arcWeight (stepArc s c)
+  weight-held : (circuit : List ℕ) (k : ℕ) → Stands circuit k c → weightAt s circuit k ≡ arcWeight (stepArc s c)
   weight-held circuit k h = rw (h .kind, h .position, h .to, h .from) weight-is
 
-  names-held : refusal s ≡ 0 → (circuit : List ℕ) (k : ℕ) → Holds circuit k c → NamesAt s circuit k
+  names-held : refusal s ≡ 0 → (circuit : List ℕ) (k : ℕ) → Stands circuit k c → NamesAt s circuit k
   names-held ok circuit k h =
       rw (h .kind, h .position, h .to, h .from)
       (record { admitted = ok; few-kinds = omega (arith, number-small (c .kind)); from-first = v .from-first; to-last = v .to-last; to-event = v .to-event; from-event = v .from-event })

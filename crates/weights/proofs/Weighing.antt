@@ -1,12 +1,20 @@
 -- What one arc adds to a circuit's sums, by the number of its kind, and the sums of one arc more.
 use mathlib.Core.Path.{_≡_, refl, sym, ap, _∙_}
 use mathlib.Core.List.{List}
-use Prim.Native.Nat.{ℕ, zero, suc, _+_, _≤_}
+use Prim.Native.Nat.{ℕ, zero, suc, _+_, _/_, _≤_, _<_}
 use native.Mathlib.Omega.{arith}
+use native.Mathlib.Nat.{div-eq-of-lt, div-self}
 use native.Mathlib.Numerals.{add-one}
 use Rattle.tables.specs.Sheets.{Sheet}
 use Rattle.weights.specs.Weights.{weight, kindWeight, weightAt, plus, weightsIn, Light}
 use Rattle.limits.specs.declared.Weight.{Weight}
+
+-- the position after the last lies in the next period
+pub crosses-last : (positions position : ℕ) → 0 < positions → position ≡ positions → 1 ≡ position / positions
+crosses-last positions position some e = sym (ap (λ (k : ℕ). k / positions) e ∙ div-self some)
+
+pub crosses-not : (positions position : ℕ) → position < positions → 0 ≡ position / positions
+crosses-not positions position small = sym (div-eq-of-lt small)
 
 -- a kind's number, and what an arc of that kind adds
 module _ (kind u d c : ℕ) where

@@ -1,13 +1,11 @@
 -- A circuit's sums, as the code adds them up: "a circuit's total with q = 1 is W + c·(cycle time)". W is ups - downs, c is forths - backs.
 -- These definitions face the code: they speak of the four numbers of each arc, whatever these are. proofs/Held ties them to a circuit's arcs.
 use Prim.Native.Nat.{ℕ, zero, suc, _+_, _*_, _/_, _≤_, _<_}
-use mathlib.Core.Path.{_≡_}
 use mathlib.Core.List.{List}
 use lib.ListN.{length, getD}
-use lib.IntN.{ℤ}
-use Rattle.tables.specs.Sheets.{Sheet, noWindow, place, refusal}
-use Rattle.windows.specs.Windows.{Event, mode}
+use Rattle.tables.specs.Sheets.{Sheet}
 use Rattle.windows.specs.Arcs.{up, down}
+use Rattle.edges.specs.Naming.{limitOf, NamesPlace}
 use Rattle.limits.specs.declared.Weight.{Weight}
 
 -- four sums
@@ -22,10 +20,6 @@ kindWeight (suc zero) u d c = weight d u 0 0
 kindWeight (suc (suc zero)) u d c = weight u d 0 c
 kindWeight (suc (suc (suc zero))) u d c = weight d u c 0
 kindWeight (suc (suc (suc (suc k)))) u d c = weight 0 0 0 0
-
--- the limit that the tables hold for the four numbers of an arc
-abbrev pub limitOf : Sheet → ℕ → ℕ → ℕ → ℕ → ℤ
-limitOf s kind position to from = getD (s .tables) (place (s .n) (mode s position) kind to from) noWindow
 
 -- what the arc of four numbers adds
 abbrev pub weightOf : Sheet → ℕ → ℕ → ℕ → ℕ → Weight
@@ -48,16 +42,7 @@ weightsIn s circuit (suc k) = plus (weightsIn s circuit k) (weightAt s circuit k
 abbrev pub Light : ℕ → Weight → Type 0
 Light k w = (w .ups ≤ k * 2147483648) × (w .downs ≤ k * 2147483648) × (w .forths ≤ k) × (w .backs ≤ k)
 
--- the four numbers name a place of the tables of an admitted sheet
-pub record NamesPlace (s : Sheet) (kind position to from : ℕ) : Type 0 where
-  pub admitted : refusal s ≡ 0
-  pub few-kinds : kind < 4
-  pub from-first : 1 ≤ position
-  pub to-last : position ≤ s .positions
-  pub to-event : Event s to
-  pub from-event : Event s from
-
--- so do those of the arc at k of a buffer
+-- the four numbers of the arc at k of a buffer name a place of the tables
 abbrev pub NamesAt : Sheet → List ℕ → ℕ → Type 0
 NamesAt s circuit k = NamesPlace s (getD circuit (4 * k) 0) (getD circuit (4 * k + 1) 0) (getD circuit (4 * k + 2) 0) (getD circuit (4 * k + 3) 0)
 

@@ -4,47 +4,11 @@
 use limits::Weight;
 use numbers::wide;
 ghost use mathlib.Core.Path.{_≡_};
-ghost use Prim.Native.Nat.{_/_, _+_, _*_, _-_, _≤_, _<_};
-ghost use lib.ListN.{length, getD};
-ghost use Rattle.tables.specs.Sheets.{sheet, place};
-ghost use Rattle.weights.specs.Weights.{weight, kindWeight, limitOf, weightOf, weightAt, plus, weightsIn, Light, NamesPlace, NamesAt, Lists};
-
-// The mode at a position of the schedule.
-fn mode_at(schedule: &[u8], position: usize) -> usize
-    requires { ⌜ (1 ≤ position) × (position ≤ length (now schedule)) ⌝ }
-    ensures { λ r. ⌜ r ≡ getD (now (schedule .entry)) (position - 1) 0 ⌝ }
-{
-    wide(schedule[position - 1])
-}
-
-// Where a window stands in the tables.
-fn place_of(n: usize, t: usize, kind: usize, to: usize, from: usize) -> usize
-    requires { ⌜ (n ≤ 12) × (t < 8) × (kind < 4) × (1 ≤ to) × (to ≤ n) × (1 ≤ from) × (from ≤ n) ⌝ }
-    ensures { λ r. ⌜ r ≡ place n t kind to from ⌝ }
-{
-    let row = (4 * t + kind) * n + (to - 1);
-    row * n + (from - 1)
-}
-
-// The limit of the window that four numbers name.
-fn limit(
-    n: usize,
-    m: usize,
-    positions: usize,
-    tables: &[i32],
-    schedule: &[u8],
-    kind: u8,
-    position: u8,
-    to: u8,
-    from: u8,
-) -> i32
-    requires { ⌜ NamesPlace (sheet n m positions (now tables) (now schedule)) kind position to from ⌝ }
-    ensures { λ r. ⌜ r ≡ limitOf (sheet n m positions (now (tables .entry)) (now (schedule .entry))) kind position to from ⌝ }
-{
-    let t = mode_at(schedule, wide(position));
-    let at = place_of(n, t, wide(kind), wide(to), wide(from));
-    tables[at]
-}
+ghost use Prim.Native.Nat.{_/_, _+_, _*_, _≤_, _<_};
+ghost use lib.ListN.{length};
+ghost use Rattle.tables.specs.Sheets.{sheet};
+ghost use Rattle.edges.specs.Naming.{NamesPlace};
+ghost use Rattle.weights.specs.Weights.{weight, kindWeight, weightOf, weightAt, plus, weightsIn, Light, NamesAt, Lists};
 
 // 1 where what follows a position lies in the next period, else 0.
 fn crossing(positions: usize, position: u8) -> u64
@@ -95,9 +59,9 @@ fn weigh_arc(
     requires { ⌜ NamesPlace (sheet n m positions (now tables) (now schedule)) kind position to from ⌝ }
     ensures { λ r. ⌜ (r ≡ weightOf (sheet n m positions (now (tables .entry)) (now (schedule .entry))) kind position to from) × Light 1 r ⌝ }
 {
-    let value = limit(n, m, positions, tables, schedule, kind, position, to, from);
-    let up = layout::upper(value);
-    let down = layout::lower(value);
+    let value = edges::limit(n, m, positions, tables, schedule, kind, position, to, from);
+    let up = edges::upper(value);
+    let down = edges::lower(value);
     let crosses = crossing(positions, position);
     by_kind(kind, up, down, crosses)
 }

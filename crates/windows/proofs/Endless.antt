@@ -159,7 +159,7 @@ module _ (s : Sheet) (some : 0 < s .positions) where
 
   module _ (p q : ℕ) (y : ℕ → ℕ) where
     -- what a window says of the continued times is what its arc says of y
-    arc-says : (h : ℕ) (k : Kind) (i j : ℕ) (w : ℤ) → Holds p q y (arc s h k i j w) ↔ Says q (onwards s p y) h k i j w
+    pub arc-says : (h : ℕ) (k : Kind) (i j : ℕ) (w : ℤ) → Holds p q y (arc s h k i j w) ↔ Says q (onwards s p y) h k i j w
     unfolding departure arrival gain loss
     arc-says h A0 i j w = (λ holds. says-rise q (onwards s p y) h A0 i j w .1 (omega arith), λ says. omega (arith, says-rise q (onwards s p y) h A0 i j w .0 says))
     arc-says h B0 i j w = (λ holds. says-rise q (onwards s p y) h B0 i j w .1 (omega arith), λ says. omega (arith, says-rise q (onwards s p y) h B0 i j w .0 says))

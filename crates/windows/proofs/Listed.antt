@@ -8,6 +8,7 @@ use native.Mathlib.Omega.{arith}
 use native.Mathlib.Decide.{decLe}
 use lib.IntN.{ℤ}
 use Rattle.theory.specs.Arcs.{Arc}
+use Rattle.tables.proofs.Laws.{clash}
 use Rattle.tables.specs.Sheets.{Sheet, noWindow, absent}
 use Rattle.tables.proofs.Laws.{absent-is}
 use Rattle.windows.specs.Windows.{Kind, A0, B0, A1, B1, Window, Event, entry, Has, mode}
@@ -67,9 +68,6 @@ kinds-in A0 = List·Memᴰ·head refl
 kinds-in B0 = List·Memᴰ·tail (List·Memᴰ·head refl)
 kinds-in A1 = List·Memᴰ·tail (List·Memᴰ·tail (List·Memᴰ·head refl))
 kinds-in B1 = List·Memᴰ·tail (List·Memᴰ·tail (List·Memᴰ·tail (List·Memᴰ·head refl)))
-
-clash : true ≡ false → ⊥
-clash e = let z : _≡_ {A = ℕ} 0 1 = cc in omega arith
 
 pub absent-some : (v : ℤ) → absent v ≡ false → v ≢ noWindow
 absent-some v e n = clash (ap absent (sym n) ∙ e)

@@ -5,21 +5,14 @@ use Prim.Native.Nat.{ℕ, zero, suc, _+_, _*_, _<_}
 use native.Mathlib.Omega.{arith}
 use lib.ListN.{getD, length}
 use Rattle.windows.specs.Windows.{number}
-use Rattle.windows.specs.Circuits.{Step, numbers}
+use Rattle.windows.specs.Circuits.{Step, numbers, Stands}
 
 pub numbers-length : (cs : List Step) → length (numbers cs) ≡ 4 * length cs
 numbers-length [] = refl
 numbers-length (c ∷ cs) = omega (arith, numbers-length cs)
 
--- the four numbers of the arc k of a buffer are those of the step c
-pub record Holds (circuit : List ℕ) (k : ℕ) (c : Step) : Type 0 where
-  pub kind : getD circuit (4 * k) 0 ≡ number (c .kind)
-  pub position : getD circuit (4 * k + 1) 0 ≡ c .position
-  pub to : getD circuit (4 * k + 2) 0 ≡ c .to
-  pub from : getD circuit (4 * k + 3) 0 ≡ c .from
-
 -- THEOREM: the arc at k is the one that was written there
-pub numbers-at : (cs : List Step) (rest : List ℕ) (k : ℕ) (d : Step) → k < length cs → Holds (numbers cs ++ rest) k (getD cs k d)
+pub numbers-at : (cs : List Step) (rest : List ℕ) (k : ℕ) (d : Step) → k < length cs → Stands (numbers cs ++ rest) k (getD cs k d)
 numbers-at [] rest k d h = absurd (omega arith)
 numbers-at (c ∷ cs) rest zero d h = record { kind = refl; position = refl; to = refl; from = refl }
 numbers-at (c ∷ cs) rest (suc k) d h =

@@ -1,7 +1,9 @@
 -- Circuits as a call hands them out (document 01, "Circuits"): "An arc is four numbers: kind, position, to, from."
+use mathlib.Core.Path.{_≡_}
 use mathlib.Core.Logic.{_≢_}
 use mathlib.Core.List.{List, [], _∷_, map}
-use Prim.Native.Nat.{ℕ, _≤_}
+use Prim.Native.Nat.{ℕ, _+_, _*_, _≤_}
+use lib.ListN.{getD}
 use lib.IntN.{ℤ}
 use Rattle.theory.specs.Arcs.{Arc}
 use Rattle.theory.specs.Circuits.{Circuit, departures, FirstSmallest, Above}
@@ -20,6 +22,13 @@ pub record Step : Type 0 where
 abbrev pub numbers : List Step → List ℕ
 numbers [] = []
 numbers (c ∷ rest) = number (c .kind) ∷ c .position ∷ c .to ∷ c .from ∷ numbers rest
+
+-- The four numbers of the arc at k of a list, from 0, are those of the step c.
+pub record Stands (list : List ℕ) (k : ℕ) (c : Step) : Type 0 where
+  pub kind : getD list (4 * k) 0 ≡ number (c .kind)
+  pub position : getD list (4 * k + 1) 0 ≡ c .position
+  pub to : getD list (4 * k + 2) 0 ≡ c .to
+  pub from : getD list (4 * k + 3) 0 ≡ c .from
 
 module _ (s : Sheet) where
   -- the limit of the step's window

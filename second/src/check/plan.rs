@@ -7,17 +7,18 @@ use crate::window::Window;
 
 use super::Fault;
 
-/// Checks that a plan of any times, even below 0, keeps every window.
+/// Checks that a plan of any times, even below 0, keeps every window, or finds the first
+/// of those that it breaks: "lowest position, then kind, to, from".
 pub fn keeps_windows(sheet: &Sheet, time: CycleTime, plan: &[i64]) -> Result<(), Fault> {
     if plan.len() != sheet.nodes() {
         return Err(Fault::PlanLength);
     }
-    for bond in bonds(sheet, time, plan) {
-        if bond.slack < 0 {
-            return Err(Fault::Broken(bond.name));
-        }
+    let broken = bonds(sheet, time, plan).filter(|bond| bond.slack < 0);
+    let rank = |name: &ArcName| (name.position, name.kind, name.to, name.from);
+    match broken.map(|bond| bond.name).min_by_key(rank) {
+        Some(first) => Err(Fault::Broken(first)),
+        None => Ok(()),
     }
-    Ok(())
 }
 
 /// Checks that a plan is "the earliest: every time is at least 0 and no plan with

@@ -1,4 +1,4 @@
-//! Loans: what a careless caller may hand to the writer, Ask and Ends.
+//! Loans: what a careless caller may hand to the calls in memory.
 
 use crate::arc::Net;
 use crate::ends;
@@ -7,6 +7,8 @@ use crate::fraction::Fraction;
 use crate::limits::{GREATEST_P, GREATEST_Q, MOST_EVENTS, MOST_MODES, MOST_POSITIONS};
 use crate::random::Random;
 use crate::sheet::{Lent, Sheet, NO_WINDOW};
+
+use super::Proposed;
 
 /// Everything that is lent to the calls in memory.
 #[derive(Clone, Debug, PartialEq, Eq)]
@@ -21,7 +23,7 @@ pub struct Loan {
     pub tables: Vec<i32>,
     /// The schedule, perhaps too short or with surplus.
     pub schedule: Vec<u64>,
-    /// The cycle time that Ask is asked.
+    /// The cycle time that Ask is asked and that a proposal is for.
     pub p: u64,
     /// Its bottom.
     pub q: u64,
@@ -74,8 +76,9 @@ impl Loan {
     }
 }
 
-/// The loan of an index: of four, one is all right, one has surplus, and two have
-/// faults, sometimes several at once, which shows the order of the refusals.
+/// The loan of an index: of four, one is all right, one has surplus, and two are spoilt,
+/// sometimes in several ways at once, which shows the order of the refusals. Not every
+/// call sees it: a check takes no buffers to be written, and finds no fault in a short one.
 pub fn loan(seed: u64, index: u64) -> Loan {
     lend(seed, index, cycle_time)
 }
@@ -86,7 +89,23 @@ pub fn untimed_loan(seed: u64, index: u64) -> Loan {
     lend(seed, index, |_, _| (0, 1))
 }
 
-fn lend(seed: u64, index: u64, time: impl Fn(&mut Random, &Sheet) -> (u64, u64)) -> Loan {
+/// The loan of an index with a proposal: what is proposed for the sheet, whatever then
+/// becomes of the loan.
+pub fn loan_with<T>(
+    seed: u64,
+    index: u64,
+    propose: fn(&mut Random, &Sheet) -> Proposed<T>,
+) -> (Loan, Vec<T>) {
+    let mut list = Vec::new();
+    let loan = lend(seed, index, |random, sheet| {
+        let proposed = propose(random, sheet);
+        list = proposed.list;
+        (proposed.p, proposed.q)
+    });
+    (loan, list)
+}
+
+fn lend(seed: u64, index: u64, time: impl FnOnce(&mut Random, &Sheet) -> (u64, u64)) -> Loan {
     let mut random = Random::new(seed.rotate_left(32), index);
     let sheet = super::sheet(seed, index / 4);
     let mut loan = Loan::of(&sheet);

@@ -4,10 +4,10 @@ use mathlib.Core.Bool.{true}
 use Prim.Native.Nat.{_*_, _≤_}
 use native.Mathlib.Omega.{arith}
 use borrow.Author.Tests.{not-true, not-false}
-use Rattle.tables.specs.Sheets.{Sheet, sheet, refusal}
+use Rattle.tables.specs.Sheets.{Sheet, sheet, refusal, timed}
 use Rattle.tables.proofs.Laws.{accepted}
 use Rattle.windows.proofs.Limits.{nodes-few}
-use Rattle.calls.specs.Ask.{timed, askRefusal, refused}
+use Rattle.calls.specs.Ask.{askRefusal, refused}
 use Rattle.calls.proofs.Ask.Refusals.{refused-sheet, refused-10, refused-9, refused-none}
 use Rattle.ask.proofs.Deciding.{outcome}
 use borrow.Author.Needs.{needs}

@@ -8,12 +8,13 @@ use native.Mathlib.Omega.{arith}
 use borrow.Author.Tests.{leb-true}
 use lib.Dec.{leb}
 use lib.ListN.{length}
-use Rattle.tables.specs.Sheets.{Sheet, within, unless, sized, scheduled, admitted, refusal}
-use Rattle.tables.proofs.Refusing.{unless-none, unless-few, otherwise-none, otherwise-few, otherwise-first}
+use Rattle.tables.specs.Sheets.{Sheet, timed, refusal}
+use Rattle.tables.proofs.Refusing.{unless-none, unless-few, otherwise-first}
 use Rattle.tables.specs.Admitted.{Admitted}
-use Rattle.tables.proofs.Laws.{both, within-is, accepted}
+use Rattle.tables.proofs.Laws.{both}
 use Rattle.windows.specs.Arcs.{nodes}
-use Rattle.calls.specs.Ask.{timed, roomy, askRefusal}
+use Rattle.calls.specs.Ask.{roomy, askRefusal}
+use Rattle.calls.proofs.Timed.{timely, refusals-few}
 
 module _ (s : Sheet) (p q : ℕ) (plan circuit : List ℕ) where
   -- no refusal fits
@@ -26,20 +27,18 @@ module _ (s : Sheet) (p q : ℕ) (plan circuit : List ℕ) where
 
   pub granted : askRefusal s p q plan circuit ≡ 0 → Granted
   granted e =
-      let a = otherwise-none (refusal s) (unless (timed p q) 10 (unless (roomy s plan circuit) 9 0)) e in
-      let b = unless-none (timed p q) 10 (unless (roomy s plan circuit) 9 0) (omega arith) (a .1) in
-      let t = both (within 1000 q) (leb p 1000000000) (b .0) in
-      let r = both (leb (nodes s) (length plan)) (leb (4 * nodes s) (length circuit)) (unless-none (roomy s plan circuit) 9 0 (omega arith) (b .1) .0) in
+      let t = timely s p q _ e in
+      let r = both (leb (nodes s) (length plan)) (leb (4 * nodes s) (length circuit)) (unless-none (roomy s plan circuit) 9 _ (omega arith) (t .rest-none) .0) in
       record {
-        sheet-ok = accepted s (a .0);
-        q-small = within-is 1000 q (t .0) .1;
-        p-small = leb-true p 1000000000 (t .1);
+        sheet-ok = t .sheet-ok;
+        q-small = t .q-small;
+        p-small = t .p-small;
         plan-long = leb-true (nodes s) (length plan) (r .0);
         circuit-long = leb-true (4 * nodes s) (length circuit) (r .1);
       }
 
   pub refused-sheet : (k : ℕ) → k ≡ refusal s → k ≢ 0 → askRefusal s p q plan circuit ≡ k
-  refused-sheet k e some = otherwise-first (refusal s) k (unless (timed p q) 10 (unless (roomy s plan circuit) 9 0)) e some
+  refused-sheet k e some = otherwise-first (refusal s) k _ e some
 
   pub refused-10 : 0 ≡ refusal s → timed p q ≡ false → askRefusal s p q plan circuit ≡ 10
   refused-10 e t = rw (← e, t)
@@ -52,8 +51,4 @@ module _ (s : Sheet) (p q : ℕ) (plan circuit : List ℕ) where
 
   -- THEOREM: a refusal's number is at most 10, and so neither 100 nor 101
   pub refused-few : askRefusal s p q plan circuit ≤ 10
-  unfolding refusal
-  refused-few =
-      otherwise-few (refusal s) (unless (timed p q) 10 (unless (roomy s plan circuit) 9 0)) 10
-      (unless-few (sized s) 4 _ 10 (omega arith) (unless-few (scheduled s) 5 _ 10 (omega arith) (unless-few (admitted s) 6 0 10 (omega arith) (omega arith))))
-      (unless-few (timed p q) 10 _ 10 (omega arith) (unless-few (roomy s plan circuit) 9 0 10 (omega arith) (omega arith)))
+  refused-few = refusals-few s p q _ 10 (omega arith) (unless-few (roomy s plan circuit) 9 0 10 (omega arith) (omega arith))

@@ -8,7 +8,7 @@ use Prim.Native.Nat.{ℕ}
 use native.Mathlib.Omega.{arith}
 use lib.ListN.{length}
 use Rattle.numbers.specs.declared.Refusal.{Refusal}
-use Rattle.tables.specs.Sheets.{Sheet, refusal, unless}
+use Rattle.tables.specs.Sheets.{Sheet, timed, refusal, unless}
 use Rattle.tables.specs.Answers.{Answer}
 use Rattle.tables.proofs.Answers.{number-same}
 use Rattle.tables.specs.Admitted.{Admitted}
@@ -17,7 +17,7 @@ use Rattle.sheet.specs.File.{Part, got, refused, sheetIn}
 use Rattle.windows.proofs.Steps.{never-both}
 use Rattle.calls.proofs.Ask.Room.{room}
 use Rattle.calls.specs.Ask as ask
-use Rattle.calls.specs.Ask.{Outcome, askRefusal, timed, planned}
+use Rattle.calls.specs.Ask.{Outcome, askRefusal, planned}
 use Rattle.calls.specs.Host.{Answers, AnswersPart, Verdict}
 
 module _ (s : Sheet) (p q : ℕ) (plan₀ circuit₀ : List ℕ) (admitted : refusal s ≡ 0) where

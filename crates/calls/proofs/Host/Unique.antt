@@ -4,9 +4,8 @@ use mathlib.Core.Logic.{inl, inr}
 use mathlib.Core.Bool.{Bool, true, false}
 use mathlib.Core.List.{List}
 use Prim.Native.Nat.{ℕ}
-use Rattle.tables.specs.Sheets.{Sheet}
+use Rattle.tables.specs.Sheets.{Sheet, timed}
 use Rattle.sheet.specs.File.{Part, got, refused, sheetIn}
-use Rattle.calls.specs.Ask.{timed}
 use Rattle.calls.specs.Host.{Answers, AnswersPart, Verdict}
 
 answers-same : (t : Bool) (s : Sheet) (p q a b : ℕ) → Answers t s p q a → Answers t s p q b → a ≡ b

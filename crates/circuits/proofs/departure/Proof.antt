@@ -2,8 +2,8 @@
 use mathlib.Core.Path.{sym, ap, subst, _∙_}
 use Prim.Native.Nat.{_*_}
 use native.Mathlib.Omega.{arith}
-use Rattle.layout.specs.declared.Edge.{Edge}
-use Rattle.layout.specs.Edges.{edgeOf}
+use Rattle.edges.specs.declared.Edge.{Edge}
+use Rattle.edges.specs.Edges.{edgeOf}
 use Rattle.turns.specs.declared.Site.{Site}
 use Rattle.turns.proofs.Folds.{Sited}
 use Rattle.turns.proofs.Places.{sited}

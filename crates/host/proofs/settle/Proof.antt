@@ -1,8 +1,7 @@
 -- `host::settle` meets its contract: the number of the outcome of Ask.
 use mathlib.Core.Path.{sym, subst}
 use Rattle.ask.specs.Answers.{answerAsked}
-use Rattle.calls.specs.Ask.{timed}
-use Rattle.tables.specs.Sheets.{sheet}
+use Rattle.tables.specs.Sheets.{sheet, timed}
 use Rattle.calls.specs.Host.{Answers}
 use Rattle.calls.proofs.Host.Asking.{answers}
 use borrow.Author.Needs.{needs}

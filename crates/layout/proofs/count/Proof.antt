@@ -11,7 +11,8 @@ use lib.ListN.{length, getD, length-append}
 use Rattle.numbers.proofs.Signs.{passed}
 use Rattle.tables.proofs.Laws.{square}
 use Rattle.tables.specs.Sheets.{absent}
-use Rattle.layout.specs.Records.{fromPlace, recordsIn}
+use Rattle.edges.specs.Edges.{fromPlace}
+use Rattle.layout.specs.Records.{recordsIn}
 use Rattle.layout.proofs.Laying.{records-few, records-skip, records-one}
 use borrow.Author.Needs.{needs}
 use Rattle.layout.proofs.count.Statement.{statement}

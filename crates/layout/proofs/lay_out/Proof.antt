@@ -11,9 +11,9 @@ use lib.ListN.{length, getD, drop, length-drop}
 use Rattle.numbers.proofs.Signs.{passed}
 use Rattle.tables.proofs.Laws.{square}
 use Rattle.tables.specs.Sheets.{absent}
-use Rattle.layout.specs.Records.{fromPlace}
+use Rattle.edges.specs.Edges.{fromPlace}
 use Rattle.layout.proofs.Laying.{Filling, fill-none, fill-few, fill-ahead, fill-put, fill-mode, fill-done}
-use Rattle.layout.proofs.Counting.{Sizes, sizes, rest}
+use Rattle.edges.proofs.Places.{Sizes, sizes, rest}
 use borrow.Author.Needs.{needs}
 use Rattle.layout.proofs.lay_out.Statement.{statement}
 use Rattle.layout.proofs.lay_out.Tie as tie

@@ -7,7 +7,8 @@ use lib.ListN.{length, getD, length-set, length-drop}
 use Rattle.tables.proofs.Laws.{square}
 use Rattle.layout.specs.Records.{modeRecords, Starts}
 use Rattle.layout.proofs.Laying.{mode-few, laid-few}
-use Rattle.layout.proofs.Counting.{starts-none, starts-more, Sizes, sizes, rest}
+use Rattle.edges.proofs.Places.{Sizes, sizes, rest}
+use Rattle.layout.proofs.Counting.{starts-none, starts-more}
 use borrow.Author.Needs.{needs}
 use Rattle.layout.proofs.starts.Statement.{statement}
 use Rattle.layout.proofs.starts.Tie as tie

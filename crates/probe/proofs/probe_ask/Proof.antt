@@ -1,6 +1,6 @@
 -- `probe::probe_ask` meets its contract: the answer, handed over.
 use Rattle.ask.specs.Answers.{answerAsked}
-use Rattle.probe.proofs.Probing.{probed}
+use Rattle.values.proofs.Handing.{handed}
 use borrow.Author.Needs.{needs}
 use Rattle.probe.proofs.probe_ask.Statement.{statement}
 use Rattle.probe.proofs.probe_ask.Tie as tie
@@ -24,7 +24,7 @@ same-length-3 : tie.Need-same-length-3
 same-length-3 c = search needs
 
 returns : tie.Need-returns
-returns c = let call = c .before .before .before .before .before .before .before .before .before .ask in probed (answerAsked (call .result)) (call .ensures) (c .before .before .before .before .of-asked .ensures) (c .before .before .give .ensures)
+returns c = let call = c .before .before .before .before .before .before .before .before .before .ask in handed (record { answer = answerAsked (call .result); outcome = call .ensures; given = c .before .before .before .before .of-asked .ensures }) (c .before .before .give .ensures)
 
 pub probe-ask-spec : {M : Type 1} → statement M
 probe-ask-spec =

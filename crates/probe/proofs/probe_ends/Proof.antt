@@ -1,6 +1,6 @@
 -- `probe::probe_ends` meets its contract: the answer, handed over.
 use Rattle.ends.specs.Answers.{answerEnded}
-use Rattle.probe.proofs.Probing.{probed}
+use Rattle.values.proofs.Handing.{handed}
 use borrow.Author.Needs.{needs}
 use Rattle.probe.proofs.probe_ends.Statement.{statement}
 use Rattle.probe.proofs.probe_ends.Tie as tie
@@ -24,7 +24,7 @@ same-length-3 : tie.Need-same-length-3
 same-length-3 c = search needs
 
 returns : tie.Need-returns
-returns c = let call = c .before .before .before .before .before .before .before .before .before .ends in probed (answerEnded (call .result)) (call .ensures) (c .before .before .before .before .of-ended .ensures) (c .before .before .give .ensures)
+returns c = let call = c .before .before .before .before .before .before .before .before .before .ends in handed (record { answer = answerEnded (call .result); outcome = call .ensures; given = c .before .before .before .before .of-ended .ensures }) (c .before .before .give .ensures)
 
 pub probe-ends-spec : {M : Type 1} → statement M
 probe-ends-spec =

@@ -1,6 +1,6 @@
 -- `probe::probe_read` meets its contract: the reader's answer, handed over.
 use Rattle.reader.specs.Answers.{answerRead}
-use Rattle.probe.proofs.Probing.{probed}
+use Rattle.values.proofs.Handing.{handed}
 use borrow.Author.Needs.{needs}
 use Rattle.probe.proofs.probe_read.Statement.{statement}
 use Rattle.probe.proofs.probe_read.Tie as tie
@@ -24,7 +24,7 @@ same-length-3 : tie.Need-same-length-3
 same-length-3 c = search needs
 
 returns : tie.Need-returns
-returns c = let call = c .before .before .before .before .before .before .before .before .read-sheet in probed (answerRead (call .result)) (call .ensures) (c .before .before .before .before .of-read .ensures) (c .before .before .give .ensures)
+returns c = let call = c .before .before .before .before .before .before .before .before .read-sheet in handed (record { answer = answerRead (call .result); outcome = call .ensures; given = c .before .before .before .before .of-read .ensures }) (c .before .before .give .ensures)
 
 pub probe-read-spec : {M : Type 1} → statement M
 probe-read-spec =

@@ -1,6 +1,6 @@
 -- `probe::probe_report` meets its contract: the report's answer, handed over.
 use Rattle.report.specs.Told.{answerTold}
-use Rattle.probe.proofs.Probing.{probed}
+use Rattle.values.proofs.Handing.{handed}
 use borrow.Author.Needs.{needs}
 use Rattle.probe.proofs.probe_report.Statement.{statement}
 use Rattle.probe.proofs.probe_report.Tie as tie
@@ -21,7 +21,7 @@ same-length-2 : tie.Need-same-length-2
 same-length-2 c = search needs
 
 returns : tie.Need-returns
-returns c = let call = c .before .before .before .before .before .before .before .report in probed (answerTold (call .result)) (call .ensures) (c .before .before .before .before .of-told .ensures) (c .before .before .give .ensures)
+returns c = let call = c .before .before .before .before .before .before .before .report in handed (record { answer = answerTold (call .result); outcome = call .ensures; given = c .before .before .before .before .of-told .ensures }) (c .before .before .give .ensures)
 
 pub probe-report-spec : {M : Type 1} → statement M
 probe-report-spec = tie.close (tie.spec report-requires of-told-requires give-requires same-length same-length-2 returns)

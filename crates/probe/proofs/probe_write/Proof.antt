@@ -1,6 +1,6 @@
 -- `probe::probe_write` meets its contract: the writer's answer, handed over.
 use Rattle.writer.specs.Answers.{answerWritten}
-use Rattle.probe.proofs.Probing.{probed}
+use Rattle.values.proofs.Handing.{handed}
 use borrow.Author.Needs.{needs}
 use Rattle.probe.proofs.probe_write.Statement.{statement}
 use Rattle.probe.proofs.probe_write.Tie as tie
@@ -21,7 +21,7 @@ same-length-2 : tie.Need-same-length-2
 same-length-2 c = search needs
 
 returns : tie.Need-returns
-returns c = let call = c .before .before .before .before .before .before .before .write-sheet in probed (answerWritten (call .result)) (call .ensures) (c .before .before .before .before .of-written .ensures) (c .before .before .give .ensures)
+returns c = let call = c .before .before .before .before .before .before .before .write-sheet in handed (record { answer = answerWritten (call .result); outcome = call .ensures; given = c .before .before .before .before .of-written .ensures }) (c .before .before .give .ensures)
 
 pub probe-write-spec : {M : Type 1} → statement M
 probe-write-spec =

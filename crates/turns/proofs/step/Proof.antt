@@ -2,7 +2,7 @@
 use mathlib.Core.Path.{sym, subst}
 use native.Mathlib.Omega.{arith}
 use Prim.Native.Nat.{_+_, _*_}
-use Rattle.layout.specs.declared.Edge.{Edge}
+use Rattle.edges.specs.declared.Edge.{Edge}
 use Rattle.turns.specs.Rounds.{Named, named, board, Reach}
 use Rattle.turns.proofs.Folds.{raise-more, raise-same}
 use borrow.Author.Needs.{needs}

@@ -48,10 +48,10 @@ use denote.Triple.Spec.{Meets, tripleOf}
 use denote.Triple.Table.{entered, cited}
 use denote.Triple.Walked.{says, needs, Stays, stay-dropped, stay-slice, walkOf, goes-dropped, goes-slice, Walks, ends-at, walked, walk-meets}
 use denote.Exit.{yes}
-use Rattle.layout.specs.declared.Record.{Record}
+use Rattle.edges.specs.declared.Record.{Record}
 use Rattle.layout.specs.Records.{blank, listed}
-use Rattle.layout.proofs.Record as T
-use Rattle.layout.proofs.Record.Laws as T′
+use Rattle.edges.proofs.Record as T
+use Rattle.edges.proofs.Record.Laws as T′
 use Rattle.turns.specs.declared.Turn.{Turn}
 use Rattle.turns.specs.Rounds.{named as arc, Board, board, raise, after, passed, Able}
 use Rattle.turns.proofs.Folds.{pass-none, pass-more, pass-all, able-same}

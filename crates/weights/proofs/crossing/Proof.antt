@@ -2,7 +2,7 @@
 use mathlib.Core.Path.{sym, _∙_}
 use native.Mathlib.Omega.{arith}
 use borrow.Author.Needs.{needs}
-use Rattle.weights.proofs.Places.{crosses-last, crosses-not}
+use Rattle.weights.proofs.Weighing.{crosses-last, crosses-not}
 use Rattle.weights.proofs.crossing.Statement.{statement}
 use Rattle.weights.proofs.crossing.Tie as tie
 

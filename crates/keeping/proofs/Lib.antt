@@ -1,0 +1,4 @@
+pub mod Reach
+pub mod First
+pub mod Windows
+pub mod Unique
