@@ -29,7 +29,7 @@ extern "C" {
 #define TAMULEHK_ENOUGH 27685u
 
 /* Stack that a call uses, in bytes, at most. */
-#define TAMULEHK_STACK 290816u
+#define TAMULEHK_STACK 67584u
 
 /* Does the cycle time p/q work for the sheet in these bytes?
  *

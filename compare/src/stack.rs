@@ -20,9 +20,10 @@ use crate::tried::Tried;
 pub fn limit(kind: Kind) -> usize {
     match kind {
         Kind::Reader | Kind::Writer => 16,
-        Kind::Ask => 276,
-        Kind::Ends | Kind::Host => 284,
-        Kind::Report => 300,
+        Kind::Ask => 48,
+        Kind::Ends => 52,
+        Kind::Host => 66,
+        Kind::Report => 74,
         Kind::Times | Kind::Arcs => 16,
         Kind::Checker => 24,
     }

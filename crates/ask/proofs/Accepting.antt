@@ -16,7 +16,7 @@ use Rattle.calls.specs.Ask.{Accepts}
 use Rattle.calls.proofs.Ask.Earliest.{table-earliest}
 
 module _ (s : Sheet) (ok : Admitted s) (p q : ℕ) (l : List Record) (start : List ℕ) (laid : Modes (s .tables) (s .n) l start (s .m))
-    (r node : ℕ) (times marks : List ℕ) (ran : Ran (walked l start (s .schedule) (s .n) (s .positions) p q (s .positions)) (nodes s) r node times marks) where
+    (r node : ℕ) (times row : List ℕ) (ran : Ran (walked l start (s .schedule) (s .n) (s .positions) p q (s .positions)) (nodes s) r node times row) where
   still : r < nodes s → Still (arcs s) p q (nodes s) r
   still few v h = omega (arith, ran .still few v h, table-is s ok p q l start laid (suc r) v, table-is s ok p q l start laid r v)
 

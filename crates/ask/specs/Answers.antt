@@ -6,7 +6,6 @@ use lib.ListN.{length}
 use Rattle.tables.specs.Sheets.{Sheet}
 use Rattle.tables.specs.Answers.{Answer, answer}
 use Rattle.windows.specs.Circuits.{Step}
-use Rattle.edges.specs.declared.Record.{Record}
 use Rattle.ask.specs.declared.Asked.{Asked}
 use Rattle.ask.specs.declared.Asked.the-variants as asked
 use Rattle.calls.specs.Ask.{Accepts, Shows}
@@ -22,16 +21,16 @@ answerAsked (asked.Refused number) = answer number []
 -- ---- what the private steps promise each other
 
 -- where all N rounds changed something, the way back leads to a circuit
-abbrev pub LeadsBack : List Record → (marks : List ℕ) → ℕ → ℕ → ℕ → ℕ → Type 0
-LeadsBack list marks n positions rounds node = positions * n ≤ rounds → Led list marks n positions (positions * n) node
+abbrev pub LeadsBack : (row : List ℕ) → ℕ → ℕ → ℕ → ℕ → Type 0
+LeadsBack row n positions rounds node = positions * n ≤ rounds → Led row n positions node
 
 -- the times in the plan's places and nothing of the circuit, or the circuit's places and nothing of the plan
-abbrev pub Finishes : List Record → (marks : List ℕ) → ℕ → ℕ → ℕ → ℕ → List ℕ → List ℕ → List ℕ → Asked → List ℕ → List ℕ → Type 0
-Finishes list marks n positions rounds node times plan₀ circuit₀ (asked.Accepted k) plan circuit =
+abbrev pub Finishes : (row : List ℕ) → ℕ → ℕ → ℕ → ℕ → List ℕ → List ℕ → List ℕ → Asked → List ℕ → List ℕ → Type 0
+Finishes row n positions rounds node times plan₀ circuit₀ (asked.Accepted k) plan circuit =
     (k ≡ rounds) × (rounds < positions * n) × Filled times (positions * n) plan₀ plan × (circuit ≡ circuit₀)
-Finishes list marks n positions rounds node times plan₀ circuit₀ (asked.Refuted count) plan circuit =
-    (positions * n ≤ rounds) × Traced list marks n positions (positions * n) node circuit₀ circuit count × (plan ≡ plan₀)
-Finishes list marks n positions rounds node times plan₀ circuit₀ (asked.Refused k) plan circuit = ⊥
+Finishes row n positions rounds node times plan₀ circuit₀ (asked.Refuted count) plan circuit =
+    (positions * n ≤ rounds) × Traced row n positions node circuit₀ circuit count × (plan ≡ plan₀)
+Finishes row n positions rounds node times plan₀ circuit₀ (asked.Refused k) plan circuit = ⊥
 
 -- the outcome where no refusal fits
 abbrev pub Settles : Sheet → ℕ → ℕ → List ℕ → List ℕ → Asked → List ℕ → List ℕ → Type 0

@@ -15,64 +15,33 @@ pub enum Asked {
     Refused { number: u8 },
 }
 
-// Writes what the rounds came to: their table as the plan, or the circuit that their marks lead to.
+// Writes what the rounds came to: their table as the plan, or the circuit that their row of marks leads to.
 fn finish(
-    list: [edges::Record; tables::PLACES],
     n: usize,
     positions: usize,
-    marks: &[u32],
     last: rounds::Last,
+    times: &[u64],
+    row: &[u16],
     plan: &mut [u64],
     circuit: &mut [u8],
 ) -> Asked
-    requires { ⌜ LeadsBack list (now marks) n positions (last .rounds) (last .node) × (positions * n ≤ 192) × (positions * n ≤ length (now plan)) × (positions * n * 4 ≤ length (now circuit)) ⌝ }
-    ensures { λ r. ⌜ Finishes list (now (marks .entry)) n positions (last .rounds) (last .node) (last .times) (now (plan .entry)) (now (circuit .entry)) r (now (plan .exit)) (now (circuit .exit)) ⌝ }
+    requires { ⌜ LeadsBack (now row) n positions (last .rounds) (last .node) × (positions * n ≤ 192) × (positions * n ≤ length (now times)) × (positions * n ≤ length (now plan)) × (4 * (positions * n) ≤ length (now circuit)) ⌝ }
+    ensures { λ r. ⌜ Finishes (now (row .entry)) n positions (last .rounds) (last .node) (now (times .entry)) (now (plan .entry)) (now (circuit .entry)) r (now (plan .exit)) (now (circuit .exit)) ⌝ }
 {
     let nodes = positions * n;
     let rounds = last.rounds;
     let node = last.node;
     if rounds < nodes {
-        let times = last.times;
-        turns::write_times(&times, nodes, plan);
+        turns::write_times(times, nodes, plan);
         return Asked::Accepted {
             rounds: rounds as u64,
         };
     }
-    let arcs = circuits::refute(list, n, positions, marks, nodes, node, circuit);
+    let arcs = circuits::refute(n, positions, row, node, circuit);
     Asked::Refuted { arcs: arcs as u64 }
 }
 
-// Decides: lays out the list, runs the rounds over it, and writes the plan or the circuit.
-fn solve(
-    n: usize,
-    m: usize,
-    positions: usize,
-    tables: &[i32],
-    schedule: &[u8],
-    p: u64,
-    q: u64,
-    plan: &mut [u64],
-    circuit: &mut [u8],
-    marks: &mut [u32],
-) -> Asked
-    requires { ⌜ askRefusal (sheet n m positions (now tables) (now schedule)) p q (now plan) (now circuit) ≡ 0 ⌝ }
-    requires { ⌜ length (now marks) ≡ 36864 ⌝ }
-    ensures { λ r. ⌜ Settles (sheet n m positions (now (tables .entry)) (now (schedule .entry))) p q (now (plan .entry)) (now (circuit .entry)) r (now (plan .exit)) (now (circuit .exit)) ⌝ }
-{
-    let list = layout::lay_out(tables, n, m);
-    let start = layout::starts(tables, n, m);
-    let job = turns::Job {
-        n: n,
-        positions: positions,
-        p: p,
-        q: q,
-        start: start,
-    };
-    let last = rounds::run(list, job, schedule, marks);
-    finish(list, n, positions, marks, last, plan, circuit)
-}
-
-// Makes the room of the work's own for a row of marks for each round, which is most of the stack that a call takes.
+// Decides: runs the rounds, and writes the plan or the circuit.
 fn decide(
     n: usize,
     m: usize,
@@ -87,19 +56,18 @@ fn decide(
     requires { ⌜ askRefusal (sheet n m positions (now tables) (now schedule)) p q (now plan) (now circuit) ≡ 0 ⌝ }
     ensures { λ r. ⌜ Settles (sheet n m positions (now (tables .entry)) (now (schedule .entry))) p q (now (plan .entry)) (now (circuit .entry)) r (now (plan .exit)) (now (circuit .exit)) ⌝ }
 {
-    let mut marks = [0u32; turns::MARKS];
-    solve(
-        n,
-        m,
-        positions,
-        tables,
-        schedule,
-        p,
-        q,
-        plan,
-        circuit,
-        &mut marks,
-    )
+    let mut times = rounds::zeros();
+    let mut row = [0u16; tables::NODES];
+    let start = layout::starts(tables, n, m);
+    let job = turns::Job {
+        n: n,
+        positions: positions,
+        p: p,
+        q: q,
+        start: start,
+    };
+    let last = rounds::run(tables, m, job, schedule, &mut times, &mut row);
+    finish(n, positions, last, &times, &row, plan, circuit)
 }
 
 // Does the cycle time p/q work? Accepted with the rounds, and the earliest plan in the first N places of `plan`; refuted with the arc

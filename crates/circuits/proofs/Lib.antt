@@ -1,4 +1,4 @@
-pub mod Backs
+pub mod Ways
 pub mod Writing
 pub mod Tracing
 pub mod Circuits

@@ -1,267 +1,256 @@
--- A mark of a time that rose names a step of the sheet, whose arc gave exactly the new time. So the way back from a time that the last
--- round raised leads, level by level, from one time that rose to another, and never leaves the nodes.
+-- The row of marks that the rounds leave is a row of parents: each node's mark names the step of the sheet whose arc raised it last. So
+-- the way back from a node that round N raised is the theory's, and never leaves the nodes.
 use mathlib.Core.Path.{_≡_, refl, sym, ap, ap₂, subst, _∙_}
 use mathlib.Core.Logic.{_≢_}
 use mathlib.Core.Bool.{Bool, true, false, cond}
 use mathlib.Core.List.{List}
-use Prim.Native.Nat.{ℕ, zero, suc, _+_, _-_, _*_, _≤_, _<_}
+use Prim.Native.Nat.{ℕ, suc, _+_, _-_, _*_, _/_, _%_, _≤_, _<_}
 use native.Mathlib.Omega.{arith}
-use native.Mathlib.Nat.{mod-eq-of-lt}
+use native.Mathlib.Decide.{decLt}
+use native.Mathlib.Nat.{mod-eq-of-lt, div-eq-of-lt, mul-add-div-right, mul-add-mod-self-right}
 use lib.Dec.{eqb}
 use lib.IntN.{ℤ}
 use lib.ListN.{length, getD}
-use Rattle.theory.specs.Arcs.{rise, fall, table}
-use Rattle.theory.proofs.Walks.{Rises, departure-rises}
+use Rattle.theory.specs.Arcs.{Arc, table, Within}
+use Rattle.theory.specs.Parents.{Came, Row}
+use Rattle.theory.specs.Backs.{back, leaving, Follows}
+use Rattle.theory.proofs.Rounds.{table-outside}
+use Rattle.theory.proofs.Backs.{back-agree, round-follows, round-inside}
 use Rattle.tables.specs.Sheets.{Sheet}
 use Rattle.tables.specs.Admitted.{Admitted}
 use Rattle.windows.specs.Windows.{Kind, A0, B0, A1, B1, number, Has, mode}
 use Rattle.windows.specs.Arcs.{arc, arcOf, arcs, nodes}
 use Rattle.windows.specs.Circuits.{Step, stepArc, Valid}
 use Rattle.windows.proofs.Laying.{arcs-within}
-use Rattle.windows.proofs.Limits.{nodes-few}
-use Rattle.windows.proofs.Steps.{valid-in}
+use Rattle.windows.proofs.Limits.{number-small, nodes-few}
+use Rattle.windows.proofs.Steps.{kindOf, kind-number, valid-in}
 use Rattle.edges.specs.declared.Edge.{Edge}
 use Rattle.edges.specs.declared.Record.{Record}
-use Rattle.layout.specs.Records.{listed}
-use Rattle.edges.specs.Edges.{byKind, edgeOf}
-use Rattle.layout.proofs.Laying.{Modes}
+use Rattle.edges.specs.Edges.{byKind}
 use Rattle.edges.proofs.Places.{asRecord}
 use Rattle.edges.proofs.Edges.{weighed}
+use Rattle.layout.proofs.Laying.{Modes}
 use Rattle.turns.specs.declared.Site.{Site}
-use Rattle.turns.specs.Rounds.{Named, siteOf, walked, Limits, MarkTold, Rose}
+use Rattle.turns.specs.Rounds.{Named, named, siteOf, walked, tableOf, MarkTold, Rose}
 use Rattle.turns.proofs.Sheets.{Source, source, table-is}
-use Rattle.circuits.specs.Ways.{positionOf, recordOf, departureOf, leaves, Marked, markAt, way, Led}
+use Rattle.circuits.specs.Ways.{before, placesOf, Led}
 
--- ---- a mark, read back
-module _ (g k : ℕ) (few : k < 4608) where
-  position-of : positionOf (g * 4608 + k + 1) ≡ g
-  position-of = omega arith
+-- ---- the step that a mark names
 
-  record-of : recordOf (g * 4608 + k + 1) ≡ k
-  record-of = omega arith
+-- the step of an arc of the kind k from u to v, and that of the marked arc that arrives at v
+abbrev stepBy : ℕ → ℕ → ℕ → ℕ → Step
+stepBy n k u v = let e = placesOf k u v in record { kind = kindOf k; position = e .here / n + 1; to = e .to % n + 1; from = e .from % n + 1 }
 
--- the departure is a matter of kind, to and from alone
-departure-same : (k : ℕ) (a : Record) (q r here next c d : ℕ) → byKind k a q here next c .departure ≡ byKind k a r here next d .departure
-unfolding byKind
-departure-same zero a q r here next c d = refl
-departure-same (suc zero) a q r here next c d = refl
-departure-same (suc (suc zero)) a q r here next c d = refl
-departure-same (suc (suc (suc zero))) a q r here next c d = refl
-departure-same (suc (suc (suc (suc k)))) a q r here next c d = refl
+abbrev pub stepOf : ℕ → ℕ → ℕ → Step
+stepOf n v mark = stepBy n (mark % 8) (mark / 8) v
 
-site-same : (g n positions p q : ℕ) → (siteOf g n positions p q .here ≡ siteOf g n positions 0 0 .here) × (siteOf g n positions p q .next ≡ siteOf g n positions 0 0 .next)
+-- ---- an arc's window and position, back from its nodes
+abbrev made : Kind → ℕ → ℕ → ℕ → Step
+made k h i j = record { kind = k; position = h; to = i; from = j }
+
+same : (k : Kind) (h h′ i i′ j j′ : ℕ) → h ≡ h′ → i ≡ i′ → j ≡ j′ → made k h i j ≡ made k h′ i′ j′
+same k h h′ i i′ j j′ a b c = rw (a, b, c)
+
+-- the event e of the position g + 1
+module _ (n x g e : ℕ) (is : x ≡ g * n) (first : 1 ≤ e) (last : e ≤ n) where
+  apart : x + e - 1 ≡ g * n + (e - 1)
+  apart = omega arith
+
+  position-at : (x + e - 1) / n + 1 ≡ suc g
+  position-at = omega (arith, ap (λ (y : ℕ). y / n) apart, mul-add-div-right {m = n} (omega arith) g (e - 1), div-eq-of-lt {n = e - 1} {m = n} (omega arith))
+
+  event-at : (x + e - 1) % n + 1 ≡ e
+  event-at = omega (arith, ap (λ (y : ℕ). y % n) apart, mul-add-mod-self-right g n (e - 1), mod-eq-of-lt {n = e - 1} {m = n} (omega arith))
+
+-- THEOREM: the step by an arc's nodes is the window at its position
+step-by : (k : Kind) (a : Record) (n q here next cross g f : ℕ) → here ≡ g * n → next ≡ f * n → 1 ≤ a .to → a .to ≤ n → 1 ≤ a .from → a .from ≤ n → let e = byKind (number k) a q here next cross in
+    stepBy n (number k) (e .departure) (e .arrival) ≡ made k (suc g) (a .to) (a .from)
+unfolding byKind placesOf
+step-by A0 a n q here next cross g f h x t t′ u u′ = same A0 _ _ _ _ _ _ (position-at n here g (a .to) h t t′) (event-at n here g (a .to) h t t′) (event-at n here g (a .from) h u u′)
+step-by B0 a n q here next cross g f h x t t′ u u′ = same B0 _ _ _ _ _ _ (position-at n here g (a .from) h u u′) (event-at n here g (a .to) h t t′) (event-at n here g (a .from) h u u′)
+step-by A1 a n q here next cross g f h x t t′ u u′ = same A1 _ _ _ _ _ _ (position-at n here g (a .from) h u u′) (event-at n next f (a .to) x t t′) (event-at n here g (a .from) h u u′)
+step-by B1 a n q here next cross g f h x t t′ u u′ = same B1 _ _ _ _ _ _ (position-at n here g (a .from) h u u′) (event-at n next f (a .to) x t t′) (event-at n here g (a .from) h u u′)
+
+-- where a position and the next one stand
+site-places : (g n positions p q : ℕ) → let at = siteOf g n positions p q in (at .here ≡ g * n) × ((f : ℕ) × (at .next ≡ f * n))
 unfolding siteOf
-site-same g n positions p q = go (eqb (g + 1) positions)
+site-places g n positions p q = go (eqb (g + 1) positions)
   where
-    -- a position that is the last, and one that is not
-    last : ℕ → ℕ → Site
-    last p q = record { here = g * n; next = 0; cross = p; q = q; mark = g * 4608 }
+    go : (b : Bool) → let at = cond {A = Site} b (record { here = g * n; next = 0; cross = p; q = q }) (record { here = g * n; next = (g + 1) * n; cross = 0; q = q }) in (at .here ≡ g * n) × ((f : ℕ) × (at .next ≡ f * n))
+    go true = (refl, (0, omega arith))
+    go false = (refl, (g + 1, refl))
 
-    other : ℕ → Site
-    other q = record { here = g * n; next = (g + 1) * n; cross = 0; q = q; mark = g * 4608 }
+-- a mark, read back
+module _ (d k : ℕ) (few : k < 8) where
+  mark-departure : (d * 8 + k) / 8 ≡ d
+  mark-departure = omega arith
 
-    go : (b : Bool) → (cond {A = Site} b (last p q) (other q) .here ≡ cond {A = Site} b (last 0 0) (other 0) .here) × (cond {A = Site} b (last p q) (other q) .next ≡ cond {A = Site} b (last 0 0) (other 0) .next)
-    go true = (refl, refl)
-    go false = (refl, refl)
+  mark-kind : (d * 8 + k) % 8 ≡ k
+  mark-kind = omega arith
 
--- a kind, back from its number; a mark names no number past 3
-abbrev kindOf : ℕ → Kind
-kindOf zero = A0
-kindOf (suc zero) = B0
-kindOf (suc (suc zero)) = A1
-kindOf (suc (suc (suc k))) = B1
+module _ (s : Sheet) where
+  -- the mark of v names a step of the sheet
+  pub record Shown (v mark : ℕ) : Type 0 where
+    pub valid : Valid s (stepOf (s .n) v mark)
+    pub kind : number (stepOf (s .n) v mark .kind) ≡ mark % 8
+    pub leave : mark / 8 ≡ stepArc s (stepOf (s .n) v mark) .departure
 
-kind-number : (k : Kind) → kindOf (number k) ≡ k
-kind-number A0 = refl
-kind-number B0 = refl
-kind-number A1 = refl
-kind-number B1 = refl
+  -- the arc that the row has at a node
+  abbrev pub parent : List ℕ → ℕ → Arc
+  parent row v = stepArc s (stepOf (s .n) v (getD row v 0))
 
--- the step that a mark names
-abbrev pub stepOf : List Record → ℕ → Step
-stepOf list mark = let a = listed list (recordOf mark) in record { kind = kindOf (a .kind); position = positionOf mark + 1; to = a .to; from = a .from }
+  -- the arcs of a round
+  abbrev pub roundArcs : ℕ → ℕ → List Record → List ℕ → List Named
+  roundArcs p q l start = walked l start (s .schedule) (s .n) (s .positions) p q (s .positions)
 
-module _ (s : Sheet) (ok : Admitted s) (p q : ℕ) (l : List Record) (start : List ℕ) (laid : Modes (s .tables) (s .n) l start (s .m)) where
-  abbrev A : List Named
-  A = walked l start (s .schedule) (s .n) (s .positions) p q (s .positions)
+  module _ (ok : Admitted s) (p q : ℕ) (l : List Record) (start : List ℕ) (laid : Modes (s .tables) (s .n) l start (s .m)) where
+    -- the step that names the source's window
+    module _ (a : Named) (o : Source s ok p q l start laid a) where
+      k : ℕ
+      k = number (o .of .kind)
 
-  abbrev leave-node : ℕ → ℕ
-  leave-node mark = leaves l (s .n) (s .positions) mark
+      e : Edge
+      e = named (asRecord (o .of)) (siteOf (o .position) (s .n) (s .positions) p q) .edge
 
-  abbrev step : ℕ → Step
-  step mark = stepOf l mark
+      edge-made : a .edge ≡ e
+      unfolding e
+      edge-made = ap (λ (x : Named). x .edge) (o .made)
 
-  -- what a mark m tells of the node v that round r + 1 raised
-  pub record Stepped (r v m : ℕ) : Type 0 where
-    pub valid : Valid s (step m)
-    pub names : Marked l (s .n) (s .positions) m
-    pub kind : number (step m .kind) ≡ listed l (recordOf m) .kind
-    pub leave : stepArc s (step m) .departure ≡ leave-node m
-    pub arrive : stepArc s (step m) .arrival ≡ v
-    pub exact : table (arcs s) p q (suc r) v + fall p q (stepArc s (step m)) ≡ table (arcs s) p q r (stepArc s (step m) .departure) + rise p q (stepArc s (step m))
+      mark-is : a .mark ≡ e .departure * 8 + k
+      unfolding e k
+      mark-is = ap (λ (x : Named). x .mark) (o .made)
 
-  limits : Limits (s .n) (s .positions) 0
-  limits = let z = ok .size in record { some-events = z .some-events; few-events = z .few-events; some-positions = z .some-positions; few-positions = z .few-positions; p-small = omega arith }
+      kind-is : a .mark % 8 ≡ k
+      unfolding k
+      kind-is = ap (λ (m : ℕ). m % 8) mark-is ∙ mark-kind (e .departure) k (omega (arith, number-small (o .of .kind)))
 
-  -- the arc of the step that names the source's window
-  module _ (a : Named) (o : Source s ok p q l start laid a) where
-    position : positionOf (a .mark) ≡ o .position
-    position = ap positionOf (o .mark) ∙ position-of (o .position) (o .at) (o .few)
+      departure-is : a .mark / 8 ≡ e .departure
+      unfolding k
+      departure-is = ap (λ (m : ℕ). m / 8) mark-is ∙ mark-departure (e .departure) k (omega (arith, number-small (o .of .kind)))
 
-    record-at : recordOf (a .mark) ≡ o .at
-    record-at = ap recordOf (o .mark) ∙ record-of (o .position) (o .at) (o .few)
+      named-step : Step
+      named-step = made (o .of .kind) (suc (o .position)) (o .of .to) (o .of .from)
 
-    record-is : listed l (recordOf (a .mark)) ≡ asRecord (o .of)
-    record-is = ap (listed l) record-at ∙ o .stands
+      step-is : stepOf (s .n) (a .edge .arrival) (a .mark) ≡ named-step
+      unfolding named-step e k
+      step-is =
+          let at = siteOf (o .position) (s .n) (s .positions) p q in
+          let x = site-places (o .position) (s .n) (s .positions) p q in
+          let h = o .has in
+          ap (λ (v : ℕ). stepOf (s .n) v (a .mark)) (ap (λ (y : Edge). y .arrival) edge-made)
+          ∙ ap₂ (λ (i u : ℕ). stepBy (s .n) i u (e .arrival)) kind-is departure-is
+          ∙ step-by (o .of .kind) (asRecord (o .of)) (s .n) (at .q) (at .here) (at .next) (at .cross) (o .position) (x .1 .0) (x .0) (x .1 .1) (h .to-event .0) (h .to-event .1) (h .from-event .0) (h .from-event .1)
 
-    -- the step, by the window
-    pub named-step : Step
-    named-step = record { kind = o .of .kind; position = suc (o .position); to = o .of .to; from = o .of .from }
+      at-mode : Has s (mode s (suc (o .position))) (o .of)
+      at-mode = subst (λ (t : ℕ). Has s t (o .of)) (sym (ap (λ (x : ℕ). getD (s .schedule) x 0) (mod-eq-of-lt (o .below)))) (o .has)
 
-    step-is : step (a .mark) ≡ named-step
-    unfolding named-step
-    step-is = rw (record-is, position, kind-number (o .of .kind)) (rw (one (o .position)))
-      where
-        one : (x : ℕ) → x + 1 ≡ suc x
-        one x = omega arith
+      arc-is : stepArc s (stepOf (s .n) (a .edge .arrival) (a .mark)) ≡ arcOf s (suc (o .position)) (o .of)
+      unfolding named-step
+      arc-is = ap (stepArc s) step-is ∙ ap (λ (z : ℤ). arc s (suc (o .position)) (o .of .kind) (o .of .to) (o .of .from) z) (at-mode .stands)
 
-    at-mode : Has s (mode s (suc (o .position))) (o .of)
-    at-mode = subst (λ (t : ℕ). Has s t (o .of)) (sym (ap (λ (x : ℕ). getD (s .schedule) x 0) (mod-eq-of-lt (o .below)))) (o .has)
+      valid-step : Valid s named-step
+      unfolding named-step
+      valid-step =
+          record { from-first = omega arith; to-last = o .below; to-event = at-mode .to-event; from-event = at-mode .from-event; present = subst (λ (z : ℤ). z ≢ _) (sym (at-mode .stands)) (at-mode .present) }
 
-    arc-is : stepArc s named-step ≡ arcOf s (suc (o .position)) (o .of)
-    unfolding named-step
-    arc-is = ap (λ (z : ℤ). arc s (suc (o .position)) (o .of .kind) (o .of .to) (o .of .from) z) (at-mode .stands)
+      shown : Shown (a .edge .arrival) (a .mark)
+      unfolding k
+      shown =
+          record {
+            valid = subst (Valid s) (sym step-is) valid-step;
+            kind = ap (λ (i : ℕ). number (kindOf i)) kind-is ∙ ap number (kind-number (o .of .kind)) ∙ sym kind-is;
+            leave = departure-is ∙ sym (ap (λ (x : Edge). x .departure) edge-made) ∙ ap (λ (x : Edge). x .departure) (o .edge) ∙ sym (ap (λ (x : Arc). x .departure) arc-is);
+          }
 
-    arc-named : stepArc s (step (a .mark)) ≡ arcOf s (suc (o .position)) (o .of)
-    arc-named = ap (stepArc s) step-is ∙ arc-is
+      -- the arc's numbers are the step's
+      edge-of : a .edge ≡ weighed p q (stepArc s (stepOf (s .n) (a .edge .arrival) (a .mark)))
+      edge-of = o .edge ∙ ap (weighed p q) (sym arc-is)
 
-    valid-step : Valid s named-step
-    unfolding named-step
-    valid-step =
-        record { from-first = omega arith; to-last = o .below; to-event = at-mode .to-event; from-event = at-mode .from-event; present = subst (λ (z : ℤ). z ≢ _) (sym (at-mode .stands)) (at-mode .present) }
+    -- ---- the row
+    module _ (row : List ℕ) (r v : ℕ) (t : MarkTold (roundArcs p q l start) row r v) where
+      told-source : Source s ok p q l start laid (t .by)
+      told-source = source s ok p q l start laid (s .positions) (omega arith) (t .member)
 
-    names : Marked l (s .n) (s .positions) (a .mark)
-    names =
-        record {
-          limits = limits;
-          some = omega (arith, o .mark);
-          position = omega (arith, position, o .below);
-          to-first = rw record-is (o .has .to-event .0);
-          from-first = rw record-is (o .has .from-event .0);
-        }
+      told-shown : Shown v (getD row v 0)
+      told-shown = rw (t .marked) (subst (λ (u : ℕ). Shown u (t .by .mark)) (t .arrives) (shown (t .by) told-source))
 
-    leave : leave-node (a .mark) ≡ a .edge .departure
-    unfolding departureOf
-    leave =
-        let i = listed l (o .at) in
-        let at = siteOf (o .position) (s .n) (s .positions) p q in
-        let e = site-same (o .position) (s .n) (s .positions) p q in
-        ap₂ (λ (g k : ℕ). edgeOf (listed l k) 0 (siteOf g (s .n) (s .positions) 0 0 .here) (siteOf g (s .n) (s .positions) 0 0 .next) 0 .departure) position record-at
-        ∙ ap₂ (λ (x y : ℕ). byKind (i .kind) i 0 x y 0 .departure) (sym (e .0)) (sym (e .1))
-        ∙ departure-same (i .kind) i 0 (at .q) (at .here) (at .next) 0 (at .cross)
-        ∙ sym (ap (λ (x : Edge). x .departure) (o .made))
+      told-edge : t .by .edge ≡ weighed p q (parent row v)
+      told-edge = edge-of (t .by) told-source ∙ ap₂ (λ (u m : ℕ). weighed p q (stepArc s (stepOf (s .n) u m))) (t .arrives) (sym (t .marked))
 
-    -- the arc's numbers are the step's
-    edge-is : a .edge ≡ weighed p q (stepArc s (step (a .mark)))
-    edge-is = o .edge ∙ ap (weighed p q) (sym arc-named)
+      -- THEOREM: a mark that is told names the parent
+      told-came : Came (arcs s) p q r v (parent row v)
+      told-came =
+          let k = t .round in
+          let e = told-edge in
+          let now = table-is s ok p q l start laid (suc k) v in (
+            k,
+            record {
+              last = record { early = t .early; raised = omega (arith, t .raised, now, table-is s ok p q l start laid k v); kept = sym (table-is s ok p q l start laid r v) ∙ t .kept ∙ now };
+              gives = record {
+                member = valid-in s (stepOf (s .n) v (getD row v 0)) (told-shown .valid);
+                arrives = sym (ap (λ (x : Edge). x .arrival) e) ∙ t .arrives;
+                exact = omega (
+                  arith,
+                  t .exact,
+                  now,
+                  ap (λ (x : Edge). x .fall) e,
+                  ap (λ (x : Edge). x .rise) e,
+                  table-is s ok p q l start laid k (t .by .edge .departure),
+                  ap (λ (x : Edge). table (arcs s) p q k (x .departure)) e,
+                );
+              };
+            },
+          )
 
-  -- a time that rose has a step
-  pub stepped : (marks : List ℕ) (r v : ℕ) → MarkTold A marks r v → Stepped r v (markAt marks r v)
-  stepped marks r v t =
-      let a = t .by in
-      let o = source s ok p q l start laid (s .positions) (omega arith) (t .member) in
-      let e = edge-is a o in
-      rw (t .marked) (record {
-        valid = subst (Valid s) (sym (step-is a o)) (valid-step a o);
-        names = names a o;
-        kind = rw (record-is a o) (ap number (kind-number (o .of .kind)));
-        leave = sym (ap (λ (x : Edge). x .departure) e) ∙ sym (leave a o);
-        arrive = sym (ap (λ (x : Edge). x .arrival) e) ∙ t .arrives;
-        exact = omega (
-          arith,
-          t .exact,
-          ap (λ (x : Edge). x .fall) e,
-          ap (λ (x : Edge). x .rise) e,
-          table-is s ok p q l start laid (suc r) v,
-          table-is s ok p q l start laid r (a .edge .departure),
-          ap (λ (x : Edge). table (arcs s) p q r (x .departure)) e,
-        );
-      })
+-- ---- the way back from a node that round N raised
+module _ (s : Sheet) (ok : Admitted s) (p q : ℕ) (l : List Record) (start : List ℕ) (laid : Modes (s .tables) (s .n) l start (s .m)) (row : List ℕ) (N v : ℕ) (all : N ≡ nodes s)
+    (told : (u : ℕ) → u < N → 0 < tableOf (roundArcs s p q l start) N u → MarkTold (roundArcs s p q l start) row N u) (below : v < N) (last : Rose (roundArcs s p q l start) (N - 1) v) where
+  abbrev T : ℕ → ℕ → ℕ
+  T r u = table (arcs s) p q r u
 
-  -- ---- the way back
-  module _ (marks : List ℕ) (N v : ℕ) (told : (r u : ℕ) → r < N → u < N → Rose A r u → MarkTold A marks r u) (all : N ≡ nodes s) (below : v < N) (last : Rose A (N - 1) v) where
-    abbrev W : ℕ → ℕ
-    W j = way leave-node marks N v j
+  here : (u : ℕ) → u < N → 0 < T N u → MarkTold (roundArcs s p q l start) row N u
+  here u h k = told u h (omega (arith, table-is s ok p q l start laid N u))
 
-    rose : (r u : ℕ) → Rises (arcs s) p q (suc r) u → Rose A r u
-    rose r u h = omega (arith, table-is s ok p q l start laid (suc r) u, table-is s ok p q l start laid r u)
+  parents : Row (arcs s) p q N (parent s row)
+  parents u k =
+      elim (decLt u N) [
+        | yes h ↦ told-came s ok p q l start laid row N u (here u h k)
+        | no h ↦ absurd (omega (arith, table-outside (arcs s) p q (nodes s) (arcs-within s (ok .size .some-positions)) N u (omega arith)))
+      ]
 
-    rises : (r u : ℕ) → Rose A r u → Rises (arcs s) p q (suc r) u
-    rises r u h = omega (arith, table-is s ok p q l start laid (suc r) u, table-is s ok p q l start laid r u)
+  again : N ≡ suc (N - 1)
+  again = omega arith
 
-    -- a time that rose at a node: its step, the node that the step leaves, and that it rose the round before
-    pub record Back (r u : ℕ) : Type 0 where
-      pub is : Stepped r u (markAt marks r u)
-      pub inside : leave-node (markAt marks r u) < N
-      pub before : Rises (arcs s) p q r (leave-node (markAt marks r u))
+  rises : T (N - 1) v < T N v
+  rises = omega (arith, last, table-is s ok p q l start laid (N - 1) v, table-is s ok p q l start laid (suc (N - 1)) v, ap (λ (r : ℕ). T r v) again)
 
-    pub one-back : (r u : ℕ) → r < N → u < N → Rises (arcs s) p q (suc r) u → Back r u
-    one-back r u h k rise =
-        let t = stepped marks r u (told r u h k (rose r u rise)) in
-        let m = valid-in s (step (markAt marks r u)) (t .valid) in
-        record {
-          is = t;
-          inside = omega (arith, t .leave, arcs-within s (ok .size .some-positions) (stepArc s (step (markAt marks r u))) m .0);
-          before = subst (Rises (arcs s) p q r) (t .leave)
-              (departure-rises (arcs s) p q r u rise (record { arc = stepArc s (step (markAt marks r u)); member = m; arrives = t .arrive; exact = t .exact }));
-        }
+  inside-nodes : Within N (arcs s)
+  inside-nodes a m = let w = arcs-within s (ok .size .some-positions) a m in (omega (arith, w .0), omega (arith, w .1))
 
-    -- the way back stays inside, and each of its times rose
-    abbrev pub Level : ℕ → Type 0
-    Level j = (W j < N) × Rises (arcs s) p q (N - j) (W j)
+  pub follows : Follows (arcs s) p q N (parent s row) v N
+  follows = round-follows (arcs s) p q N N (N - 1) (omega arith) again inside-nodes (parent s row) parents v below rises
 
-    way-suc : (j : ℕ) → W (suc j) ≡ leave-node (markAt marks (N - suc j) (W j))
-    unfolding way
-    way-suc j = refl
+  inside : (j : ℕ) → j ≤ N → back (leaving (parent s row)) v j < N
+  inside = round-inside (arcs s) p q N N (N - 1) (omega arith) again inside-nodes (parent s row) parents v below rises
 
-    level-start : Level 0
-    unfolding way
-    level-start = (below, subst (λ (r : ℕ). Rises (arcs s) p q r v) (again N below) (rises (N - 1) v last))
-      where
-        again : (N : ℕ) → v < N → suc (N - 1) ≡ N - 0
-        again N h = omega arith
+  -- each mark on the way names a step
+  shown-on : (j : ℕ) → j < N → Shown s (back (leaving (parent s row)) v j) (getD row (back (leaving (parent s row)) v j) 0)
+  shown-on j h =
+      let u = back (leaving (parent s row)) v j in
+      let c = follows j h .1 .last in
+      told-shown s ok p q l start laid row N u (here u (inside j (omega arith)) (omega (arith, c .raised, c .kept)))
 
-    back-at : (j : ℕ) → j < N → Level j → Back (N - suc j) (W j)
-    back-at j h k = one-back (N - suc j) (W j) (omega arith) (k .0) (subst (λ (r : ℕ). Rises (arcs s) p q r (W j)) (again j h) (k .1))
-      where
-        again : (j : ℕ) → j < N → N - j ≡ suc (N - suc j)
-        again j h = omega arith
+  -- the way back by the marks is that by the parents
+  pub same-way : (j : ℕ) → j ≤ N → back (before row) v j ≡ back (leaving (parent s row)) v j
+  same-way = back-agree (before row) (leaving (parent s row)) v N (λ j h. shown-on j h .leave)
 
-    pub level : (j : ℕ) → j ≤ N → Level j
-    level zero h = level-start
-    level (suc j) h =
-        let b = back-at j (omega arith) (level j (omega arith)) in
-        subst (λ (u : ℕ). (u < N) × Rises (arcs s) p q (N - suc j) u) (sym (way-suc j)) (b .inside, b .before)
+  pub shown-at : (j : ℕ) → j < N → Shown s (back (before row) v j) (getD row (back (before row) v j) 0)
+  shown-at j h = rw (same-way j (omega arith)) (shown-on j h)
 
-    -- THEOREM: the way back leads
-    pub led : length marks ≡ 36864 → Led l marks (s .n) (s .positions) N v
-    led long =
-        record {
-          few = omega (arith, nodes-few s ok);
-          long = long;
-          inside = λ j h. level j h .0;
-          named = λ j h. back-at j h (level j (omega arith)) .is .names;
-        }
-
-    -- between two levels: the node of the upper, the mark, and the node of the lower
-    pub back-of : (k : ℕ) → k < N → Back k (W (N - suc k))
-    back-of k h = subst (λ (r : ℕ). Back r (W (N - suc k))) (again k h) (back-at (N - suc k) (omega arith) (level (N - suc k) (omega arith)))
-      where
-        again : (k : ℕ) → k < N → N - suc (N - suc k) ≡ k
-        again k h = omega arith
-
-    pub way-of : (k : ℕ) → k < N → leave-node (markAt marks k (W (N - suc k))) ≡ W (N - k)
-    way-of k h = go (N - suc k) (N - k) (omega arith) (omega arith)
-      where
-        go : (j m : ℕ) → m ≡ suc j → N - suc j ≡ k → leave-node (markAt marks k (W j)) ≡ W m
-        go j m a b = ap (λ (x : ℕ). leave-node (markAt marks x (W j))) (sym b) ∙ sym (way-suc j) ∙ ap W (sym a)
+  -- THEOREM: the way back leads
+  pub led : N ≤ length row → Led row (s .n) (s .positions) v
+  led long =
+      record {
+        rowed = record { some = ok .size .some-events; few = nodes-few s ok; long = omega arith };
+        inside = λ j h. omega (arith, same-way j (omega arith), inside j (omega arith));
+      }

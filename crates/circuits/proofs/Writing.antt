@@ -1,19 +1,24 @@
--- Four numbers an arc, written one arc after the other.
+-- Four numbers an arc, written from the last arc to the first.
 use mathlib.Core.Path.{_≡_, refl, sym, ap, _∙_}
 use mathlib.Core.List.{List, [], _∷_, _++_}
-use Prim.Native.Nat.{ℕ, suc, _+_, _*_}
+use Prim.Native.Nat.{ℕ, zero, suc, _+_, _-_, _*_, _/_, _%_, _≤_, _<_}
 use native.Mathlib.Omega.{arith}
+use native.Mathlib.Nat.{div-le-self, mod-le}
+use native.Mathlib.Numerals.{add-one}
 use lib.ListN.{length, getD, set}
-use lib.Seq.{sets}
-use Rattle.turns.specs.Rounds.{span}
-use Rattle.turns.proofs.Folds.{span-snoc}
-use Rattle.circuits.proofs.Backs.{part-length}
-use Rattle.edges.specs.declared.Record.{Record}
-use Rattle.circuits.specs.Ways.{quad, quads, part}
+use lib.Seq.{sets, set-comm}
+use Rattle.theory.specs.Backs.{back}
+use Rattle.circuits.specs.Ways.{before, placesOf, quad, written}
 
-pub sets-append : (xs ys l : List ℕ) (i k : ℕ) → i + length xs ≡ k → sets (sets l i xs) k ys ≡ sets l i (xs ++ ys)
-sets-append [] ys l i k e = let h : k ≡ i = omega arith in rw h
-sets-append (x ∷ xs) ys l i k e = sets-append xs ys (set l i x) (suc i) k (omega arith)
+set-sets : (ys l : List ℕ) (i k x : ℕ) → i < k → set (sets l k ys) i x ≡ sets (set l i x) k ys
+set-sets [] l i k x h = refl
+set-sets (y ∷ ys) l i k x h = set-sets ys (set l k y) i (suc k) x (omega arith) ∙ ap (λ (l : List ℕ). sets l (suc k) ys) (set-comm l k i y x (λ (e : k ≡ i). omega arith))
+
+-- what is written before what is written is one run
+sets-before : (xs ys l : List ℕ) (i k : ℕ) → i + length xs ≡ k → sets (sets l k ys) i xs ≡ sets l i (xs ++ ys)
+sets-before [] ys l i k e = let h : k ≡ i = omega arith in rw h
+sets-before (x ∷ xs) ys l i k e =
+    ap (λ (l : List ℕ). sets l (suc i) xs) (set-sets ys l i k x (omega arith)) ∙ sets-before xs ys (set l i x) (suc i) k (omega arith)
 
 pub four : (l : List ℕ) (i a b c d : ℕ) → set (set (set (set l i a) (i + 1) b) (i + 2) c) (i + 3) d ≡ sets l i (a ∷ b ∷ c ∷ d ∷ [])
 four l i a b c d =
@@ -22,30 +27,54 @@ four l i a b c d =
     let z : i + 3 ≡ suc (suc (suc i)) = omega arith in
     rw (x, y, z)
 
-module _ (list : List Record) where
-  pub quads-append : (xs ys : List ℕ) → quads list (xs ++ ys) ≡ quads list xs ++ quads list ys
-  unfolding quads
-  quads-append [] ys = refl
-  quads-append (x ∷ xs) ys = ap (λ (l : List ℕ). quad list x ++ l) (quads-append xs ys)
+-- ---- the arcs of the way back
 
-  pub quads-length : (xs : List ℕ) → length (quads list xs) ≡ length xs * 4
-  unfolding quads
-  quads-length [] = refl
-  quads-length (x ∷ xs) = omega (arith, quads-length xs)
+module _ (row : List ℕ) (n s : ℕ) where
+  pub written-length : (j : ℕ) → length (written row n s j) ≡ 4 * j
+  unfolding written
+  written-length zero = refl
+  written-length (suc j) = omega (arith, written-length j)
 
-module _ (list : List Record) (path : List ℕ) (a at : ℕ) (old : List ℕ) where
-  pub write-none : old ≡ sets old (at * 4) (quads list (part path a 0))
-  unfolding span quads
-  write-none = refl
+module _ (row : List ℕ) (n s count : ℕ) (old : List ℕ) where
+  -- the last j arcs are written, and x is the node before them
+  pub record Written (j x : ℕ) (new : List ℕ) : Type 0 where
+    pub some : j ≤ count
+    pub there : back (before row) s j ≡ x
+    pub is : new ≡ sets old (4 * (count - j)) (written row n s j)
+
+  pub written-none : Written 0 s old
+  unfolding back written
+  written-none = record { some = omega arith; there = refl; is = refl }
 
   -- one arc more, as the code counts
-  pub write-more : (j : ℕ) (out new : List ℕ) → out ≡ sets old (at * 4) (quads list (part path a j)) → new ≡ sets out ((at + j) * 4) (quad list (getD path (a + j) 0))
-      → new ≡ sets old (at * 4) (quads list (part path a (j + 1)))
-  unfolding quads
-  write-more j out new e h =
-      h
-      ∙ ap (λ (l : List ℕ). sets l ((at + j) * 4) (quad list (getD path (a + j) 0))) e
-      ∙ sets-append (quads list (part path a j)) (quad list (getD path (a + j) 0)) old (at * 4) ((at + j) * 4) (omega (arith, quads-length list (part path a j), part-length path j a))
-      ∙ ap (sets old (at * 4)) (sym (quads-append list (part path a j) (getD path (a + j) 0 ∷ [])))
-      ∙ ap (λ (l : List ℕ). sets old (at * 4) (quads list l)) (sym (span-snoc (λ i. getD path i 0) j a (a + j) refl))
-      ∙ ap (λ (m : ℕ). sets old (at * 4) (quads list (part path a m))) (omega arith)
+  pub written-more : (j x : ℕ) (out new : List ℕ) → Written j x out → j < count → new ≡ sets out (4 * (count - (j + 1))) (quad n x (getD row x 0))
+      → (w : ℕ) → w ≡ before row x → Written (j + 1) w new
+  unfolding back written
+  written-more j x out new t h e w goes =
+      let at : ℕ = 4 * (count - (j + 1)) in
+      record {
+        some = omega arith;
+        there = ap (back (before row) s) (add-one j) ∙ ap (before row) (t .there) ∙ sym goes;
+        is = e
+            ∙ ap (λ (l : List ℕ). sets l at (quad n x (getD row x 0))) (t .is)
+            ∙ sets-before (quad n x (getD row x 0)) (written row n s j) old at (4 * (count - j)) (omega arith)
+            ∙ ap (λ (y : ℕ). sets old at (quad n y (getD row y 0) ++ written row n s j)) (sym (t .there))
+            ∙ ap (λ (m : ℕ). sets old at (written row n s m)) (sym (add-one j));
+      }
+
+  pub written-all : (j x : ℕ) (new : List ℕ) → Written j x new → count ≤ j → new ≡ sets old 0 (written row n s count)
+  written-all j x new t h =
+      let all : j ≡ count = omega (arith, t .some) in
+      let front : 4 * (count - j) ≡ 0 = omega arith in
+      t .is ∙ ap (λ (i : ℕ). sets old i (written row n s j)) front ∙ ap (λ (m : ℕ). sets old 0 (written row n s m)) all
+
+-- ---- what is written of an arc goes into bytes
+
+-- an arc between two nodes has its position and both its events at one of them
+pub few-places : (k u v n : ℕ) → u < 192 → v < 192 → let e = placesOf k u v in (e .here / n < 192) × (e .to % n < 192) × (e .from % n < 192)
+unfolding placesOf
+few-places zero u v n a b = (omega (arith, div-le-self v n), omega (arith, mod-le v n), omega (arith, mod-le u n))
+few-places (suc zero) u v n a b = (omega (arith, div-le-self v n), omega (arith, mod-le u n), omega (arith, mod-le v n))
+few-places (suc (suc zero)) u v n a b = (omega (arith, div-le-self u n), omega (arith, mod-le v n), omega (arith, mod-le u n))
+few-places (suc (suc (suc zero))) u v n a b = (omega (arith, div-le-self v n), omega (arith, mod-le u n), omega (arith, mod-le v n))
+few-places (suc (suc (suc (suc k)))) u v n a b = (omega (arith, div-le-self 0 n), omega (arith, mod-le 0 n), omega (arith, mod-le 0 n))

@@ -1,6 +1,6 @@
 -- The code's own answer is one: each answer in numbers is that of one case, since a refusal's number is 1 to 11.
 use mathlib.Core.Path.{_≡_, refl, sym, ap, _∙_}
-use mathlib.Core.Bool.{true, cond}
+use mathlib.Core.Bool.{cond}
 use mathlib.Core.List.{List}
 use Prim.Native.Nat.{ℕ}
 use lib.Dec.{eqb}

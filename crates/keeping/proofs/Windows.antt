@@ -15,7 +15,7 @@ use lib.ListN.{getD, drop}
 use Rattle.theory.specs.Arcs.{rise, fall, Holds}
 use Rattle.theory.proofs.Sums.{rise-bound, fall-bound}
 use Rattle.tables.proofs.Laws.{clash}
-use Rattle.tables.specs.Sheets.{Sheet, sheet, absent, places}
+use Rattle.tables.specs.Sheets.{Sheet, absent}
 use Rattle.tables.specs.Answers.{answer}
 use Rattle.windows.specs.Windows.{Kind, A0, B0, A1, B1, number, Window, entry, Has, mode}
 use Rattle.windows.specs.Inequalities.{Says}

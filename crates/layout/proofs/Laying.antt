@@ -111,7 +111,7 @@ module _ (tables : List ℤ) (n : ℕ) where
   pub fill-mode : (t k : ℕ) (l : List Record) (w : ℕ) → Filling t k l w → k ≡ size → Filling (t + 1) 0 l w
   unfolding laidOut recordsIn modeRecords
   fill-mode t k l w f e =
-      let whole : soFar (t + 1) 0 ≡ soFar t k = append-nil (laidOut tables n (t + 1)) ∙ rw (add-one t, e) in
+      let whole : soFar (t + 1) 0 ≡ soFar t k = append-nil (laidOut tables n (t + 1)) ∙ rw (add-one t, e) refl in
       record { room = f .room; laid = rw whole (f .laid); count = rw whole (f .count) }
 
   pub fill-done : (t m : ℕ) (l : List Record) (w : ℕ) → Filling t 0 l w → t ≡ m → Laid (laidOut tables n m) l

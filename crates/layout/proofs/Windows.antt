@@ -7,7 +7,7 @@ use Prim.Native.Nat.{ℕ, zero, suc, _+_, _-_, _*_, _≤_, _<_}
 use native.Mathlib.Omega.{arith}
 use lib.IntN.{ℤ, pos}
 use lib.ListN.{length, getD, drop}
-use Rattle.tables.specs.Sheets.{Sheet, absent, place, places}
+use Rattle.tables.specs.Sheets.{Sheet, absent, places}
 use Rattle.windows.specs.Windows.{Kind, A0, B0, A1, B1, number, Window, entry}
 use Rattle.windows.specs.Arcs.{oneTo, each, kinds, unlessAbsent, windowAt, windowsTo, windowsOf, windows}
 use Rattle.windows.proofs.Listed.{each-same, each-more}

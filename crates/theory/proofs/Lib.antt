@@ -1,6 +1,8 @@
 pub mod Rounds
 pub mod Pigeon
 pub mod Walks
+pub mod Parents
+pub mod Backs
 pub mod Loops
 pub mod Slopes
 pub mod Sums

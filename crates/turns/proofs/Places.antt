@@ -11,7 +11,6 @@ use lib.Dec.{eqb}
 use lib.ListN.{getD}
 use Rattle.edges.specs.declared.Record.{Record}
 use Rattle.layout.specs.Records.{listed}
-use Rattle.turns.specs.declared.Site.{Site}
 use Rattle.turns.specs.Rounds.{Named, named, siteOf, Board, after, span, walked, Parts, Limits}
 use Rattle.turns.proofs.Folds.{Sited, Inside, fine-inside, after-append}
 
@@ -29,12 +28,12 @@ sited g n positions p q l sq h = go (eqb (g + 1) positions) refl
     few = nodes-small n positions p l
 
     go : (b : Bool) → eqb (g + 1) positions ≡ b
-        → Sited (cond b (record { here = g * n; next = 0; cross = p; q = q; mark = g * 4608 }) (record { here = g * n; next = (g + 1) * n; cross = 0; q = q; mark = g * 4608 })) n (positions * n)
-    go true e = record { here-in = omega (arith, whole); next-in = omega (arith, whole); few = few; cross-small = l .p-small; q-small = sq; mark-small = omega (arith, l .few-positions) }
+        → Sited (cond b (record { here = g * n; next = 0; cross = p; q = q }) (record { here = g * n; next = (g + 1) * n; cross = 0; q = q })) n (positions * n)
+    go true e = record { here-in = omega (arith, whole); next-in = omega (arith, whole); few = few; cross-small = l .p-small; q-small = sq }
     go false e =
         let q = eqb-false (g + 1) positions e in
         let m : (g + 2) * n ≤ positions * n = mul-le-mul-right n (omega arith) in
-        record { here-in = omega (arith, whole); next-in = omega (arith, m); few = few; cross-small = omega arith; q-small = sq; mark-small = omega (arith, l .few-positions) }
+        record { here-in = omega (arith, whole); next-in = omega (arith, m); few = few; cross-small = omega arith; q-small = sq }
 
 -- ---- every arc of a list lies inside
 abbrev pub AllIn : ℕ → List Named → Type 0
@@ -61,23 +60,23 @@ module _ (l : List Record) (start schedule : List ℕ) (n positions p q : ℕ) (
   walked-in (suc g) h =
       let t = getD schedule g 0 in
       let k : g < positions = omega arith in
-      all-append (positions * n) (walked l start schedule n positions p q g) (span (λ k. named (listed l k) (siteOf g n positions p q) k) (getD start t 0) (getD start (t + 1) 0 - getD start t 0)) (walked-in g (omega arith))
-      (all-span (positions * n) (λ k. named (listed l k) (siteOf g n positions p q) k) (getD start (t + 1) 0 - getD start t 0) (getD start t 0) (getD start (t + 1) 0) (omega (arith, parts .rising g k))
+      all-append (positions * n) (walked l start schedule n positions p q g) (span (λ k. named (listed l k) (siteOf g n positions p q)) (getD start t 0) (getD start (t + 1) 0 - getD start t 0)) (walked-in g (omega arith))
+      (all-span (positions * n) (λ k. named (listed l k) (siteOf g n positions p q)) (getD start (t + 1) 0 - getD start t 0) (getD start t 0) (getD start (t + 1) 0) (omega (arith, parts .rising g k))
       (λ j i. fine-inside l n (getD start (t + 1) 0) (positions * n) (siteOf g n positions p q) j (parts .fine g k) (sited g n positions p q limits small k) i))
 
 -- no position yet, and one position more, as the code counts
-module _ (l : List Record) (start schedule : List ℕ) (n positions p q : ℕ) (old : List ℕ) (row : ℕ) (b : Board) where
-  pub round-none : b ≡ after old row (walked l start schedule n positions p q 0) b
+module _ (l : List Record) (start schedule : List ℕ) (n positions p q : ℕ) (old : List ℕ) (b : Board) where
+  pub round-none : b ≡ after old (walked l start schedule n positions p q 0) b
   unfolding walked after
   round-none = refl
 
-  pub round-more : (g : ℕ) (c d : Board) (at : Site) → at ≡ siteOf g n positions p q → c ≡ after old row (walked l start schedule n positions p q g) b
-      → d ≡ after old row (span (λ k. named (listed l k) at k) (getD start (getD schedule g 0) 0) (getD start (getD schedule g 0 + 1) 0 - getD start (getD schedule g 0) 0)) c
-      → d ≡ after old row (walked l start schedule n positions p q (g + 1)) b
+  pub round-more : (g : ℕ) (c d : Board) → c ≡ after old (walked l start schedule n positions p q g) b
+      → d ≡ after old (span (λ k. named (listed l k) (siteOf g n positions p q)) (getD start (getD schedule g 0) 0) (getD start (getD schedule g 0 + 1) 0 - getD start (getD schedule g 0) 0)) c
+      → d ≡ after old (walked l start schedule n positions p q (g + 1)) b
   unfolding walked
-  round-more g c d at s e h =
+  round-more g c d e h =
+      let part = span (λ k. named (listed l k) (siteOf g n positions p q)) (getD start (getD schedule g 0) 0) (getD start (getD schedule g 0 + 1) 0 - getD start (getD schedule g 0) 0) in
       h
-      ∙ ap (λ (x : Site). after old row (span (λ k. named (listed l k) x k) (getD start (getD schedule g 0) 0) (getD start (getD schedule g 0 + 1) 0 - getD start (getD schedule g 0) 0)) c) s
-      ∙ ap (after old row (span (λ k. named (listed l k) (siteOf g n positions p q) k) (getD start (getD schedule g 0) 0) (getD start (getD schedule g 0 + 1) 0 - getD start (getD schedule g 0) 0))) e
-      ∙ sym (after-append old row (walked l start schedule n positions p q g) (span (λ k. named (listed l k) (siteOf g n positions p q) k) (getD start (getD schedule g 0) 0) (getD start (getD schedule g 0 + 1) 0 - getD start (getD schedule g 0) 0)) b)
-      ∙ ap (λ (k : ℕ). after old row (walked l start schedule n positions p q k) b) (sym (add-one g))
+      ∙ ap (after old part) e
+      ∙ sym (after-append old (walked l start schedule n positions p q g) part b)
+      ∙ ap (λ (k : ℕ). after old (walked l start schedule n positions p q k) b) (sym (add-one g))

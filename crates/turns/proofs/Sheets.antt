@@ -4,7 +4,7 @@ use mathlib.Core.Path.{_≡_, refl, sym, ap, ap₂, _∙_, subst}
 use mathlib.Core.Logic.{inl, inr}
 use mathlib.Core.Bool.{Bool, true, false, cond}
 use mathlib.Core.List.{List, [], _∷_, _++_, map, List·Memᴰ, List·Memᴰ·head, List·Memᴰ·tail, List·Memᴰ·not-nil, List·Memᴰ·append-cases}
-use Prim.Native.Nat.{ℕ, zero, suc, _+_, _-_, _*_, _/_, _≤_, _<_, max}
+use Prim.Native.Nat.{ℕ, zero, suc, _+_, _-_, _*_, _≤_, _<_, max}
 use native.Mathlib.Omega.{arith}
 use native.Mathlib.Nat.{mod-eq-of-lt, mul-le-mul-right}
 use native.Mathlib.Decide.{ℕ-discrete, decLt}
@@ -83,7 +83,7 @@ site-edge : (s : Sheet) (p q g : ℕ) → g < s .positions → (a : Window) → 
 unfolding siteOf edgeAt
 site-edge s p q g h a to from = same (eqb (g + 1) (s .positions)) ∙ edge-is s p q g h a to from
   where
-    same : (b : Bool) → let at = cond {A = Site} b (record { here = g * s .n; next = 0; cross = p; q = q; mark = g * 4608 }) (record { here = g * s .n; next = (g + 1) * s .n; cross = 0; q = q; mark = g * 4608 }) in
+    same : (b : Bool) → let at = cond {A = Site} b (record { here = g * s .n; next = 0; cross = p; q = q }) (record { here = g * s .n; next = (g + 1) * s .n; cross = 0; q = q }) in
         edgeOf (asRecord a) (at .q) (at .here) (at .next) (at .cross) ≡ cond b (edgeOf (asRecord a) q (g * s .n) 0 p) (edgeOf (asRecord a) q (g * s .n) ((g + 1) * s .n) 0)
     same true = refl
     same false = refl
@@ -114,7 +114,7 @@ module _ (s : Sheet) (ok : Admitted s) (p q : ℕ) (l : List Record) (start : Li
   has g i h k = windows-of s (getD (s .schedule) g 0) _ (getD-in (windows s (getD (s .schedule) g 0)) i nothing k)
 
   here : (g : ℕ) → g < s .positions → (i : ℕ) → i < length (windows s (getD (s .schedule) g 0))
-      → named (listed l (getD start (getD (s .schedule) g 0) 0 + i)) (siteOf g (s .n) (s .positions) p q) (getD start (getD (s .schedule) g 0) 0 + i) .edge
+      → named (listed l (getD start (getD (s .schedule) g 0) 0 + i)) (siteOf g (s .n) (s .positions) p q) .edge
       ≡ weighed p q (arcOf s (suc g) (getD (windows s (getD (s .schedule) g 0)) i nothing))
   here g k i j =
       let t = getD (s .schedule) g 0 in
@@ -133,9 +133,9 @@ module _ (s : Sheet) (ok : Admitted s) (p q : ℕ) (l : List Record) (start : Li
       let t = getD (s .schedule) g 0 in
       let below = ok .modes g k in
       let count : getD start (t + 1) 0 - getD start t 0 ≡ length (windows s t) = omega (arith, starts t below) in
-      let part = match-span p q (λ x. named (listed l x) (siteOf g (s .n) (s .positions) p q) x) (arcOf s (suc g)) (windows s t) (getD start t 0) (λ i j. here g k i j) in
+      let part = match-span p q (λ x. named (listed l x) (siteOf g (s .n) (s .positions) p q)) (arcOf s (suc g)) (windows s t) (getD start t 0) (λ i j. here g k i j) in
       subst (Match p q (walked l start (s .schedule) (s .n) (s .positions) p q (suc g))) (sym (each-more g (arcsAt s)))
-      (match-append p q (walked l start (s .schedule) (s .n) (s .positions) p q g) (each (oneTo g) (arcsAt s)) (span (λ x. named (listed l x) (siteOf g (s .n) (s .positions) p q) x) (getD start t 0) (getD start (t + 1) 0 - getD start t 0)) (arcsAt s (suc g))
+      (match-append p q (walked l start (s .schedule) (s .n) (s .positions) p q g) (each (oneTo g) (arcsAt s)) (span (λ x. named (listed l x) (siteOf g (s .n) (s .positions) p q)) (getD start t 0) (getD start (t + 1) 0 - getD start t 0)) (arcsAt s (suc g))
       (walked-match g (omega arith)) (rw (count, mode-is g k) part))
 
   -- THEOREM: the tables of the rounds are the tables of the sheet's arcs
@@ -163,6 +163,7 @@ module _ (s : Sheet) (ok : Admitted s) (p q : ℕ) (l : List Record) (start : Li
 
   -- the record k is fine
   record Good (k : ℕ) : Type 0 where
+    kind-few : listed l k .kind < 8
     to-event : Event s (listed l k .to)
     from-event : Event s (listed l k .from)
     up-small : up (listed l k .w) ≤ 1000000
@@ -176,6 +177,7 @@ module _ (s : Sheet) (ok : Admitted s) (p q : ℕ) (l : List Record) (start : Li
       let m = small (j .0) (j .2) a b in
       let e : listed l k ≡ asRecord a = ap (listed l) (j .4) ∙ records (j .0) (j .1) (j .2) (j .3) in
       record {
+        kind-few = rw e (omega (arith, number-small (a .kind)));
         to-event = rw e (b .to-event);
         from-event = rw e (b .from-event);
         up-small = rw e (m .0);
@@ -189,6 +191,7 @@ module _ (s : Sheet) (ok : Admitted s) (p q : ℕ) (l : List Record) (start : Li
   fine t h =
       record {
         few = start-few t h;
+        kind-few = λ k x. good t h k x .kind-few;
         to-first = λ k x. good t h k x .to-event .0;
         to-last = λ k x. good t h k x .to-event .1;
         from-first = λ k x. good t h k x .from-event .0;
@@ -210,40 +213,25 @@ module _ (s : Sheet) (ok : Admitted s) (p q : ℕ) (l : List Record) (start : Li
   pub record Source (a : Named) : Type 0 where
     pub position : ℕ
     pub below : position < s .positions
-    pub at : ℕ
-    pub few : at < 4608
     pub of : Window
     pub has : Has s (getD (s .schedule) position 0) of
-    pub stands : listed l at ≡ asRecord of
-    pub made : a .edge ≡ named (listed l at) (siteOf position (s .n) (s .positions) p q) at .edge
+    pub made : a ≡ named (asRecord of) (siteOf position (s .n) (s .positions) p q)
     pub edge : a .edge ≡ weighed p q (arcOf s (suc position) of)
-    pub mark : a .mark ≡ position * 4608 + at + 1
 
-  site-mark : (g : ℕ) → siteOf g (s .n) (s .positions) p q .mark ≡ g * 4608
-  unfolding siteOf
-  site-mark g = go (eqb (g + 1) (s .positions))
-    where
-      go : (b : Bool) → cond {A = Site} b (record { here = g * s .n; next = 0; cross = p; q = q; mark = g * 4608 }) (record { here = g * s .n; next = (g + 1) * s .n; cross = 0; q = q; mark = g * 4608 }) .mark ≡ g * 4608
-      go true = refl
-      go false = refl
-
-  source-at : (g : ℕ) → g < s .positions → (k : ℕ) → getD start (getD (s .schedule) g 0) 0 ≤ k → k < getD start (getD (s .schedule) g 0 + 1) 0 → Source (named (listed l k) (siteOf g (s .n) (s .positions) p q) k)
+  source-at : (g : ℕ) → g < s .positions → (k : ℕ) → getD start (getD (s .schedule) g 0) 0 ≤ k → k < getD start (getD (s .schedule) g 0 + 1) 0 → Source (named (listed l k) (siteOf g (s .n) (s .positions) p q))
   source-at g h k x y =
       let t = getD (s .schedule) g 0 in
       let i = k - getD start t 0 in
       let j : i < length (windows s t) = omega (arith, starts t (ok .modes g h)) in
       let e : getD start t 0 + i ≡ k = omega arith in
+      let a = getD (windows s t) i nothing in
       record {
         position = g;
         below = h;
-        at = k;
-        few = omega (arith, start-few (t + 1) (omega (arith, ok .modes g h)));
-        of = getD (windows s t) i nothing;
+        of = a;
         has = has g i h j;
-        stands = ap (listed l) (sym e) ∙ records t i (ok .modes g h) j;
-        made = refl;
-        edge = ap (λ (z : ℕ). named (listed l z) (siteOf g (s .n) (s .positions) p q) z .edge) (sym e) ∙ here g h i j;
-        mark = ap (λ (z : ℕ). z + k + 1) (site-mark g);
+        made = ap (λ (w : Record). named w (siteOf g (s .n) (s .positions) p q)) (ap (listed l) (sym e) ∙ records t i (ok .modes g h) j);
+        edge = ap (λ (z : ℕ). named (listed l z) (siteOf g (s .n) (s .positions) p q) .edge) (sym e) ∙ here g h i j;
       }
 
   span-of : {A : Type 0} (f : ℕ → A) (m a : ℕ) {x : A} → List·Memᴰ x (span f a m) → (k : ℕ) × (a ≤ k) × (k < a + m) × (x ≡ f k)
@@ -262,6 +250,6 @@ module _ (s : Sheet) (ok : Admitted s) (p q : ℕ) (l : List Record) (start : Li
       elim (List·Memᴰ·append-cases (walked l start (s .schedule) (s .n) (s .positions) p q g) m) [
         | inl e ↦ source g (omega arith) e
         | inr e ↦
-            let r = span-of (λ x. named (listed l x) (siteOf g (s .n) (s .positions) p q) x) (getD start (t + 1) 0 - getD start t 0) (getD start t 0) e in
+            let r = span-of (λ x. named (listed l x) (siteOf g (s .n) (s .positions) p q)) (getD start (t + 1) 0 - getD start t 0) (getD start t 0) e in
             rw (r .3) (source-at g k (r .0) (r .1) (omega (arith, r .2, starts t (ok .modes g k))))
       ]

@@ -17,6 +17,18 @@ use Rattle.turns.proofs.Folds.{pass-part, able, boards-same}
 use Rattle.turns.proofs.Places.{AllIn, nodes-small, sited, walked-in, round-none, round-more}
 use Rattle.turns.proofs.Tables.{Running, running-none, running-boards, running-more, ran-still, ran-all}
 
+-- the part of the list that a turn walks
+abbrev pub partOf : List Record → Turn → List Record
+partOf l t = take (t .last - t .first) (drop (t .first) l)
+
+-- The turn's part of the list is in it, each of its records can be stepped through, and position and round are within their limits.
+pub record Ready (l : List Record) (job : Job) (t : Turn) (old new row : List ℕ) : Type 0 where
+  pub part-in : t .first ≤ t .last
+  pub part-below : t .last ≤ length l
+  pub able : (i : ℕ) → i < length (partOf l t) → Able (listed (partOf l t) i) (t .at) old new row
+  pub here : t .position < job .positions
+  pub round : t .round < 192
+
 module _ (l : List Record) (job : Job) (schedule : List ℕ) (posed : Posed job schedule) (parts : Parts l (job .n) (job .start) schedule (job .positions)) (room : length l ≡ 4608) where
   abbrev N : ℕ
   N = job .positions * job .n
@@ -37,47 +49,47 @@ module _ (l : List Record) (job : Job) (schedule : List ℕ) (posed : Posed job 
   few : N ≤ 192
   few = nodes-small (job .n) (job .positions) (job .p) (posed .limits)
 
-  -- the turn t, with `began` the marks when its round began
-  pub record Walking (t : Turn) (old new marks : List ℕ) : Type 0 where
+  -- the turn t, with `began` the row when its round began
+  pub record Walking (t : Turn) (old new row : List ℕ) : Type 0 where
     began : List ℕ
     is : t ≡ turnOf (t .left) (t .round) (t .position) (t .node) job schedule
     here : t .position < U
     before : t .round < N
     turns : t .left + t .round * U + t .position ≡ N * U
-    long : length began ≡ 36864
+    long : length began ≡ 192
     running : Running A N (t .round) (t .node) old began
-    done : board new marks ≡ after old (t .round * 192) (W (t .position)) (board old began)
+    done : board new row ≡ after old (W (t .position)) (board old began)
 
-  pub record State (t : Turn) (old new marks : List ℕ) : Type 0 where
+  pub record State (t : Turn) (old new row : List ℕ) : Type 0 where
     pub old-long : length old ≡ 192
     pub new-long : length new ≡ 192
-    pub marks-long : length marks ≡ 36864
-    walking : 0 < t .left → Walking t old new marks
-    pub over : t .left ≡ 0 → Ran A N (t .round) (t .node) new marks
+    pub row-long : length row ≡ 192
+    walking : 0 < t .left → Walking t old new row
+    pub over : t .left ≡ 0 → Ran A N (t .round) (t .node) new row
 
-  pub state-none : (t : Turn) (old new marks : List ℕ) → t ≡ turnOf (N * U) 0 0 0 job schedule → new ≡ old → ((v : ℕ) → getD old v 0 ≡ 0) → length old ≡ 192 → length marks ≡ 36864 → State t old new marks
-  state-none t old new marks e same zeros lo lm =
+  pub state-none : (t : Turn) (old new row : List ℕ) → t ≡ turnOf (N * U) 0 0 0 job schedule → new ≡ old → ((v : ℕ) → getD old v 0 ≡ 0) → length old ≡ 192 → length row ≡ 192 → State t old new row
+  state-none t old new row e same zeros lo lr =
       let some : 0 < N = mul-pos (posed .limits .some-positions) (posed .limits .some-events) in
       let turns : 0 < N * U = mul-pos some (posed .limits .some-positions) in
       rw (e, same) (record {
         old-long = lo;
         new-long = lo;
-        marks-long = lm;
+        row-long = lr;
         walking = λ h. record {
-          began = marks;
+          began = row;
           is = refl;
           here = posed .limits .some-positions;
           before = some;
           turns = omega arith;
-          long = lm;
-          running = running-none A N 0 old marks zeros;
-          done = round-none l (job .start) schedule (job .n) (job .positions) (job .p) (job .q) old (0 * 192) (board old marks);
+          long = lr;
+          running = running-none A N 0 old row zeros;
+          done = round-none l (job .start) schedule (job .n) (job .positions) (job .p) (job .q) old (board old row);
         };
         over = λ h. absurd (omega arith);
       })
 
-  module _ (t : Turn) (old new marks : List ℕ) (s : State t old new marks) (more : 0 < t .left) where
-    w : Walking t old new marks
+  module _ (t : Turn) (old new row : List ℕ) (s : State t old new row) (more : 0 < t .left) where
+    w : Walking t old new row
     w = s .walking more
 
     at-is : t .at ≡ siteOf (t .position) (job .n) (job .positions) (job .p) (job .q)
@@ -92,52 +104,48 @@ module _ (l : List Record) (job : Job) (schedule : List ℕ) (posed : Posed job 
     unfolding w
     last-is = ap (λ (x : Turn). x .last) (w .is)
 
-    -- the part of the list
-    pub part-in : t .first ≤ t .last
+    part-in : t .first ≤ t .last
     part-in = omega (arith, first-is, last-is, parts .rising (t .position) (w .here))
 
-    pub part-below : t .last ≤ length l
+    part-below : t .last ≤ length l
     part-below = omega (arith, last-is, parts .fine (t .position) (w .here) .few, room)
 
-    abbrev part : List Record
-    part = take (t .last - t .first) (drop (t .first) l)
-
-    part-long : length part ≡ t .last - t .first
+    part-long : length (partOf l t) ≡ t .last - t .first
     part-long = length-take-le (t .last - t .first) (drop (t .first) l) (omega (arith, part-in, part-below, length-drop (t .first) l))
 
-    part-at : (i : ℕ) → i < t .last - t .first → listed part i ≡ listed l (t .first + i)
+    part-at : (i : ℕ) → i < t .last - t .first → listed (partOf l t) i ≡ listed l (t .first + i)
     part-at i h = getD-take (t .last - t .first) (drop (t .first) l) i blank h ∙ getD-drop (t .first) l i blank
 
-    -- what the pass rests on
-    pub pass-able : (i : ℕ) → i < length part → Able (listed part i) (t .at) (t .first + i) old new marks (t .round * 192)
-    pass-able i h =
-        let k : i < t .last - t .first = omega (arith, part-long) in
+    -- THEOREM: the turn is what the pass, and the turn after it, rest on
+    pub ready : Ready l job t old new row
+    ready =
         let b = running-boards A N (t .round) (t .node) old (w .began) inside few (w .before) (s .old-long) (w .long) (w .running) in
-        rw (part-at i k) (able l (job .n) (t .last) N (t .at) (t .first + i) old new marks (t .round * 192) (rw last-is (parts .fine (t .position) (w .here)))
-        (rw at-is (sited (t .position) (job .n) (job .positions) (job .p) (job .q) (posed .limits) (posed .q-small) (w .here)))
-        (boards-same old old (w .began) new marks (t .round * 192) N b (s .new-long ∙ sym (s .old-long)) (s .marks-long ∙ sym (w .long))) (omega (arith, s .marks-long)) (omega arith))
-
-    -- what the next turn rests on
-    pub next-here : t .position < U
-    next-here = w .here
-
-    pub next-round : t .round < 192
-    next-round = omega (arith, w .before, few)
+        record {
+          part-in = part-in;
+          part-below = part-below;
+          able = λ i h.
+              let k : i < t .last - t .first = omega (arith, part-long) in
+              rw (part-at i k) (able l (job .n) (t .last) N (t .at) (t .first + i) old new row (rw last-is (parts .fine (t .position) (w .here)))
+              (rw at-is (sited (t .position) (job .n) (job .positions) (job .p) (job .q) (posed .limits) (posed .q-small) (w .here)))
+              (boards-same old old (w .began) new row N b (s .new-long ∙ sym (s .old-long)) (s .row-long ∙ sym (w .long))) (omega arith));
+          here = w .here;
+          round = omega (arith, w .before, few);
+        }
 
     -- the pass is done
-    module _ (new′ marks′ : List ℕ) (passing : board new′ marks′ ≡ after old (t .round * 192) (passed (t .at) (t .first) part) (board new marks)) (ln : length new′ ≡ 192) (lm : length marks′ ≡ 36864) where
-      done-more : board new′ marks′ ≡ after old (t .round * 192) (W (t .position + 1)) (board old (w .began))
+    module _ (new′ row′ : List ℕ) (passing : board new′ row′ ≡ after old (passed (t .at) (partOf l t)) (board new row)) (ln : length new′ ≡ 192) (lr : length row′ ≡ 192) where
+      done-more : board new′ row′ ≡ after old (W (t .position + 1)) (board old (w .began))
       done-more =
-          round-more l (job .start) schedule (job .n) (job .positions) (job .p) (job .q) old (t .round * 192) (board old (w .began)) (t .position) (board new marks) (board new′ marks′) (t .at) at-is (w .done)
-          (rw (← first-is, ← last-is) (passing ∙ ap (λ (x : List Named). after old (t .round * 192) x (board new marks)) (pass-part (t .at) l (t .last - t .first) (t .first) (omega (arith, part-in, part-below)))))
+          round-more l (job .start) schedule (job .n) (job .positions) (job .p) (job .q) old (board old (w .began)) (t .position) (board new row) (board new′ row′) (w .done)
+          (rw (← at-is, ← first-is, ← last-is) (passing ∙ ap (λ (x : List Named). after old x (board new row)) (pass-part (t .at) l (t .last - t .first) (t .first) (omega (arith, part-in, part-below)))))
 
       -- THEOREM: the turn after it stands as this one did, and fewer are left
-      pub state-more : (t′ : Turn) (old′ : List ℕ) → Next t job schedule old new′ t′ old′ → State t′ old′ new′ marks′ × (t′ .left < t .left)
+      pub state-more : (t′ : Turn) (old′ : List ℕ) → Next t job schedule old new′ t′ old′ → State t′ old′ new′ row′ × (t′ .left < t .left)
       state-more t′ old′ (on h e o) = (
         rw (e, o) (record {
           old-long = s .old-long;
           new-long = ln;
-          marks-long = lm;
+          row-long = lr;
           walking = λ k. record {
             began = w .began;
             is = refl;
@@ -157,30 +165,30 @@ module _ (l : List Record) (job : Job) (schedule : List ℕ) (posed : Posed job 
             rw (e, o) (record {
               old-long = s .old-long;
               new-long = ln;
-              marks-long = lm;
+              row-long = lr;
               walking = λ k. absurd (omega arith);
-              over = λ k. ran-still A N (t .round) (t .node) old (w .began) new′ marks′ inside few (w .before) (s .old-long) (w .long) (w .running) (rw last at done-more) N d refl;
+              over = λ k. ran-still A N (t .round) (t .node) old (w .began) new′ row′ inside few (w .before) (s .old-long) (w .long) (w .running) (rw last at done-more) N d refl;
             }),
             rw e more,
           )
       state-more t′ old′ (again h d b f e o) =
           let last : t .position + 1 ≡ U = omega (arith, w .here) in
-          let run = running-more A N (t .round) (t .node) old (w .began) new′ marks′ inside few (w .before) (s .old-long) (w .long) (w .running) (rw last at done-more) d f (λ x. omega arith) in (
+          let run = running-more A N (t .round) (t .node) old (w .began) new′ row′ inside few (w .before) (s .old-long) (w .long) (w .running) (rw last at done-more) d f (λ x. omega arith) in (
             rw (e, o) (record {
               old-long = ln;
               new-long = ln;
-              marks-long = lm;
+              row-long = lr;
               walking = λ k. record {
-                began = marks′;
+                began = row′;
                 is = refl;
                 here = posed .limits .some-positions;
                 before = elim (decLt (t .round + 1) N) [ yes x ↦ x | no x ↦ absurd (omega (arith, w .turns, mul-le-mul-right {m = N} {n = t .round + 1} U (omega arith))) ];
                 turns = omega (arith, w .turns);
-                long = lm;
+                long = lr;
                 running = run;
-                done = round-none l (job .start) schedule (job .n) (job .positions) (job .p) (job .q) new′ ((t .round + 1) * 192) (board new′ marks′);
+                done = round-none l (job .start) schedule (job .n) (job .positions) (job .p) (job .q) new′ (board new′ row′);
               };
-              over = λ k. ran-all A N (t .round + 1) d new′ marks′ (full k) (omega (arith, w .before)) run;
+              over = λ k. ran-all A N (t .round + 1) d new′ row′ (full k) (omega (arith, w .before)) run;
             }),
             rw e (omega arith),
           )

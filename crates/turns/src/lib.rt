@@ -1,4 +1,4 @@
-// One turn of the rounds, a position in a round: what an arc of its records does to the table and the marks, and which turn comes after.
+// One turn of the rounds, a position in a round: what an arc of its records does to the table and the row of marks, and which turn comes after.
 // This crate knows the tables of times, the marks, and what all rounds over a list of records mean; it walks no list itself.
 // It renders document 01's "Rounds".
 ghost use mathlib.Core.Path.{_≡_};
@@ -6,17 +6,16 @@ ghost use Prim.Native.Nat.{_+_, _-_, _*_, _≤_, _<_};
 ghost use lib.ListN.{length};
 ghost use Rattle.turns.specs.Rounds.{named, siteOf, Able, board, raise, turnOf, Posed, Differs, Filled, Next};
 
-// The marks: a row for each round, with a place for each node.
-pub const MARKS: usize = tables::NODES * tables::NODES;
+// The kinds that a mark has room for.
+pub const KINDS: u16 = 8;
 
-// Where a position stands: the places of its events and of the next position's, what crossing to that costs, how many steps a unit of
-// time has, and the first of its marks.
+// Where a position stands: the places of its events and of the next position's, what crossing to that costs, and how many steps a unit of
+// time has.
 pub struct Site {
     pub here: usize,
     pub next: usize,
     pub cross: u64,
     pub q: u64,
-    pub mark: usize,
 }
 
 // The position g + 1. After the last comes the first again, a cycle time later.
@@ -25,14 +24,12 @@ pub fn site_at(g: usize, n: usize, positions: usize, p: u64, q: u64) -> Site
     ensures { λ r. ⌜ r ≡ siteOf g n positions p q ⌝ }
 {
     let here = g * n;
-    let mark = g * tables::PLACES;
     if g + 1 == positions {
         return Site {
             here: here,
             next: 0,
             cross: p,
             q: q,
-            mark: mark,
         };
     }
     Site {
@@ -40,7 +37,6 @@ pub fn site_at(g: usize, n: usize, positions: usize, p: u64, q: u64) -> Site
         next: (g + 1) * n,
         cross: 0,
         q: q,
-        mark: mark,
     }
 }
 
@@ -91,28 +87,28 @@ fn less(a: u64, b: u64) -> u64
     if b < a { a - b } else { 0 }
 }
 
-// The mark of the record k of a position.
-fn mark_at(first: usize, k: usize) -> u32
-    requires { ⌜ (first ≤ 69120) × (k < 4608) ⌝ }
-    ensures { λ r. ⌜ r ≡ first + k + 1 ⌝ }
+// The mark of an arc: the node that it leaves, and its kind. With the node where it arrives they tell the window and the position.
+fn mark_of(departure: usize, kind: u8) -> u16
+    requires { ⌜ (departure < 192) × (kind < 8) ⌝ }
+    ensures { λ r. ⌜ r ≡ departure * 8 + kind ⌝ }
 {
-    (first + k + 1) as u32
+    departure as u16 * KINDS + kind as u16
 }
 
-// The arc of a record, the i-th of those of the turn, raises the time at its arrival, where that is more than the new table has there.
-pub fn step(w: edges::Record, turn: Turn, i: usize, old: &[u64], new: &mut [u64], marks: &mut [u32])
-    requires { ⌜ Able w (turn .at) (turn .first + i) (now old) (now new) (now marks) (turn .round * 192) ⌝ }
-    ensures { λ _. ⌜ board (now (new .exit)) (now (marks .exit)) ≡ raise (now (old .entry)) (turn .round * 192) (named w (turn .at) (turn .first + i)) (board (now (new .entry)) (now (marks .entry))) ⌝ }
+// The arc of a record raises the time at its arrival, where that is more than the new table has there, and leaves its mark: the row has the
+// arc that raised each node last, in whichever round.
+pub fn step(w: edges::Record, turn: Turn, old: &[u64], new: &mut [u64], row: &mut [u16])
+    requires { ⌜ Able w (turn .at) (now old) (now new) (now row) ⌝ }
+    ensures { λ _. ⌜ board (now (new .exit)) (now (row .exit)) ≡ raise (now (old .entry)) (named w (turn .at)) (board (now (new .entry)) (now (row .entry))) ⌝ }
 {
     let at = turn.at;
-    let mark = mark_at(at.mark, turn.first + i);
     let e = edges::edge_of(w, at.q, at.here, at.next, at.cross);
     let departure = e.departure;
     let arrival = e.arrival;
     let most = less(old[departure] + e.rise, e.fall);
     if new[arrival] < most {
         new[arrival] = most;
-        marks[turn.round * tables::NODES + arrival] = mark;
+        row[arrival] = mark_of(departure, w.kind);
     }
 }
 

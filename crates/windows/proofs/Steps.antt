@@ -2,7 +2,7 @@
 use mathlib.Core.Path.{_≡_, refl, sym, ap, _∙_, subst}
 use mathlib.Core.Logic.{_⊎_, inl, inr}
 use mathlib.Core.List.{List, [], _∷_, _++_, map}
-use Prim.Native.Nat.{ℕ, _<_}
+use Prim.Native.Nat.{ℕ, zero, suc, _<_}
 use native.Mathlib.Omega.{arith}
 use lib.ListN.{length}
 use lib.IntN.{ℤ}
@@ -12,12 +12,26 @@ use Rattle.theory.proofs.Walks.{refuted-never}
 use Rattle.theory.proofs.Loops.{works-or-refuted}
 use Rattle.theory.proofs.Turning.{circuit-turn, total-turn, map-append, smallest-split, split-first}
 use Rattle.tables.specs.Sheets.{Sheet}
+use Rattle.windows.specs.Windows.{Kind, A0, B0, A1, B1, number}
 use Rattle.windows.specs.Inequalities.{Times, Solves}
 use Rattle.windows.specs.Arcs.{nodes, arc, arcs}
 use Rattle.windows.specs.Circuits.{Step, limit, stepArc, Valid, AllValid, CircuitOf, Refutes}
 use Rattle.windows.proofs.Listed.{arcs-in, arcs-of}
 use Rattle.windows.proofs.Endless.{meaning}
 use Rattle.windows.proofs.Laying.{arcs-within}
+
+-- a kind, back from its number; what it is for a number past 3 plays no part
+abbrev pub kindOf : ℕ → Kind
+kindOf zero = A0
+kindOf (suc zero) = B0
+kindOf (suc (suc zero)) = A1
+kindOf (suc (suc (suc k))) = B1
+
+pub kind-number : (k : Kind) → kindOf (number k) ≡ k
+kind-number A0 = refl
+kind-number B0 = refl
+kind-number A1 = refl
+kind-number B1 = refl
 
 module _ (s : Sheet) where
   pub valid-in : (c : Step) → Valid s c → stepArc s c ∈ arcs s

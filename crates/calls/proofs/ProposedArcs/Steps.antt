@@ -8,32 +8,18 @@ use lib.ListN.{getD, length, drop}
 use Rattle.theory.specs.Arcs.{Arc}
 use Rattle.theory.specs.Circuits.{Walk, Distinct, departures, FirstSmallest, Above}
 use Rattle.tables.specs.Sheets.{Sheet}
-use Rattle.windows.specs.Windows.{Kind, A0, B0, A1, B1, number}
+use Rattle.windows.specs.Windows.{Kind, A0, number}
 use Rattle.windows.specs.Arcs.{arcs}
 use Rattle.windows.specs.Circuits.{Step, numbers, Stands, stepArc, Valid, AllValid, Refutes}
 use Rattle.windows.proofs.Numbers.{numbers-length, numbers-at}
-use Rattle.windows.proofs.Steps.{valid-in}
+use Rattle.windows.proofs.Steps.{kindOf, kind-number, valid-in}
 use Rattle.calls.specs.ProposedArcs.{count, arriving, Closed, Follows, Good, Sound}
 
 -- ---- the four numbers of a step tell it
 
--- the kind of a number; what it is for a number past 3 plays no part
-kindOf : ℕ → Kind
-kindOf zero = A0
-kindOf (suc zero) = B0
-kindOf (suc (suc zero)) = A1
-kindOf (suc (suc (suc k))) = B1
-
-kind-of : (k : Kind) → kindOf (number k) ≡ k
-unfolding kindOf
-kind-of A0 = refl
-kind-of B0 = refl
-kind-of A1 = refl
-kind-of B1 = refl
-
 -- THEOREM: steps with the same four numbers are one
 pub step-same : (c d : Step) → number (c .kind) ≡ number (d .kind) → c .position ≡ d .position → c .to ≡ d .to → c .from ≡ d .from → c ≡ d
-step-same c d kind position to from = same (c .kind) (d .kind) (c .position) (d .position) (c .to) (d .to) (c .from) (d .from) (sym (kind-of (c .kind)) ∙ ap kindOf kind ∙ kind-of (d .kind)) position to from
+step-same c d kind position to from = same (c .kind) (d .kind) (c .position) (d .position) (c .to) (d .to) (c .from) (d .from) (sym (kind-number (c .kind)) ∙ ap kindOf kind ∙ kind-number (d .kind)) position to from
   where
     same : (k k′ : Kind) (h h′ i i′ j j′ : ℕ) → k ≡ k′ → h ≡ h′ → i ≡ i′ → j ≡ j′
         → _≡_ {A = Step} (record { kind = k; position = h; to = i; from = j }) (record { kind = k′; position = h′; to = i′; from = j′ })

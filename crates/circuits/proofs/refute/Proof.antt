@@ -1,81 +1,40 @@
--- The way back is made in room of the work's own, and its closed stretch is written.
-use mathlib.Core.Path.{refl}
+-- A node is met again, the way round it is sound, and it is written from its smallest node on.
+use mathlib.Core.Path.{subst}
 use Prim.Native.Nat.{ℕ}
 use native.Mathlib.Omega.{arith}
 use lib.ListN.{length-replicate}
 use Rattle.turns.proofs.Filling.{zero-at}
-use Rattle.circuits.proofs.Backs.{found-shown}
+use Rattle.circuits.specs.Ways.{before, Sound}
+use Rattle.circuits.proofs.Ways.{met-sound, sound-on, round-few, traced}
 use borrow.Author.Needs.{needs}
 use Rattle.circuits.proofs.refute.Statement.{statement}
 use Rattle.circuits.proofs.refute.Tie as tie
 
-slice-aggregate-back : tie.Need-slice-aggregate-back
-slice-aggregate-back c = search needs
+slice-aggregate-meet : tie.Need-slice-aggregate-meet
+slice-aggregate-meet c = search needs
 
-slice-aggregate-back-2 : tie.Need-slice-aggregate-back-2
-slice-aggregate-back-2 c = search needs
+meet-requires : tie.Need-meet-requires
+meet-requires c κs = let s = c .before .before .before in
+    (s .pre .0, record { room = omega (arith, s .pre .0 .rowed .few, length-replicate {A = ℕ} 192 0); none = λ x e. omega (arith, zero-at 192 x) })
 
-slice-aggregate-back-3 : tie.Need-slice-aggregate-back-3
-slice-aggregate-back-3 c = search needs
+go-round-requires : tie.Need-go-round-requires
+go-round-requires c κs = let m = c .before in let s = m .before .before .before .before in let a = s .args in let t = m .meet .ensures in
+    (met-sound (a .row .now) (a .n) (a .positions) (m .meet .result) (a .v) (s .pre .0) t, (t .count, omega (arith, t .within), t .returns))
 
-back-requires : tie.Need-back-requires
-back-requires c κs = let s = c .before .before .before .before .before in
-    record {
-      led = s .pre .0;
-      paths = omega (arith, s .pre .0 .few, length-replicate {A = ℕ} 192 0);
-      nodes = omega (arith, s .pre .0 .few, length-replicate {A = ℕ} 193 0);
-      seens = omega (arith, s .pre .0 .few, length-replicate {A = ℕ} 192 0);
-      unseen = zero-at 192;
-    }
-
-slice-aggregate-turn : tie.Need-slice-aggregate-turn
-slice-aggregate-turn c = search needs
-
-slice-aggregate-turn-2 : tie.Need-slice-aggregate-turn-2
-slice-aggregate-turn-2 c = search needs
-
-turn-requires : tie.Need-turn-requires
-turn-requires c κs = let b = c .before .before .before .before .before .before in let s = b .before .before .before .before .before .before in let a = s .args in
-    let f = b .back .ensures in
-    let k = b .back .kept .1 .1 .1 .1 .1 .1 in
-    let x = b .back .last .1 .1 .1 .1 .1 .1 in (
-      f .some,
-      omega (arith, f .within, s .pre .0 .few),
-      omega (arith, f .within, s .pre .0 .few, k .0, length-replicate {A = ℕ} 192 0),
-      omega (arith, f .within, s .pre .0 .few, k .1 .0, length-replicate {A = ℕ} 193 0),
-      omega (arith, f .within, s .pre .1),
-      found-shown (a .list) (a .marks .now) (a .n) (a .positions) (a .nodes) (a .v) (x .0) (x .1 .0) (b .back .result .low) (b .back .result .high) (s .pre .0) f,
+write-requires : tie.Need-write-requires
+write-requires c κs = let g = c .before in let m = g .before .before in let s = m .before .before .before .before in let a = s .args in let t = m .meet .ensures in let r = g .go-round .ensures in
+    let few = round-few (a .row .now) (a .n) (a .positions) (a .v) (m .meet .result) (g .go-round .result .least) (g .go-round .result .count) t r in (
+      subst (Sound (a .row .now) (a .n) (a .positions)) (r .there) (sound-on (a .row .now) (a .n) (a .positions) (m .meet .result) (met-sound (a .row .now) (a .n) (a .positions) (m .meet .result) (a .v) (s .pre .0) t) (r .at)),
+      omega (arith, few, s .pre .0 .rowed .few),
+      omega (arith, few, s .pre .1),
     )
-
-sub-result : tie.Need-sub-result
-sub-result c = search needs
 
 same-length : tie.Need-same-length
 same-length c = search needs
 
 returns : tie.Need-returns
-returns c = let t = c .before .before in let b = t .before .before .before .before .before .before .before in let x = b .back .last .1 .1 .1 .1 .1 .1 in
-    record {
-      path = x .0;
-      node = x .1 .0;
-      low = b .back .result .low;
-      high = b .back .result .high;
-      found = b .back .ensures;
-      counted = refl;
-      turned = t .turn .ensures;
-    }
+returns c = let w = c .before .before in let g = w .before .before in let m = g .before .before in let a = m .before .before .before .before .args in
+    traced (a .row .now) (a .n) (a .positions) (a .v) (m .meet .result) (g .go-round .result .least) (g .go-round .result .count) (m .meet .ensures) (g .go-round .ensures) (a .circuit .now) _ (w .write .ensures)
 
 pub refute-spec : {M : Type 1} → statement M
-refute-spec =
-    tie.close
-    (tie.spec
-    slice-aggregate-back
-    slice-aggregate-back-2
-    slice-aggregate-back-3
-    back-requires
-    slice-aggregate-turn
-    slice-aggregate-turn-2
-    turn-requires
-    sub-result
-    same-length
-    returns)
+refute-spec = tie.close (tie.spec slice-aggregate-meet meet-requires go-round-requires write-requires same-length returns)

@@ -14,9 +14,6 @@ small g n h k = mul-le-mul h k
 mul-here : tie.Need-mul-here
 mul-here c = omega (arith, small (c .args .g) (c .args .n) (omega arith) (c .pre .2))
 
-mul-mark : tie.Need-mul-mark
-mul-mark c = search needs
-
 add-if1 : tie.Need-add-if1
 add-if1 c = search needs
 
@@ -24,15 +21,15 @@ returns : tie.Need-returns
 unfolding siteOf
 returns c = rw (eq-eqb _ _ (c .if1 .taken))
 
-add-t8 : tie.Need-add-t8
-add-t8 c = search needs
+add-t7 : tie.Need-add-t7
+add-t7 c = search needs
 
-mul-t10 : tie.Need-mul-t10
-mul-t10 c = let s = c .before in omega (arith, small (s .args .g + 1) (s .args .n) (omega arith) (s .pre .2))
+mul-t9 : tie.Need-mul-t9
+mul-t9 c = let s = c .before in omega (arith, small (s .args .g + 1) (s .args .n) (omega arith) (s .pre .2))
 
 returns-2 : tie.Need-returns-2
 unfolding siteOf
 returns-2 c = rw (ne-eqb _ _ (c .if1 .left))
 
 pub site-at-spec : {M : Type 1} → statement M
-site-at-spec = tie.close (tie.spec mul-here mul-mark add-if1 returns add-t8 mul-t10 returns-2)
+site-at-spec = tie.close (tie.spec mul-here add-if1 returns add-t7 mul-t9 returns-2)

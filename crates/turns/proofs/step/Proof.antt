@@ -1,7 +1,6 @@
 -- The two ways of the branch are the two cases of `raise`.
-use mathlib.Core.Path.{sym, subst}
+use mathlib.Core.Path.{_≡_, refl, sym, ap, subst}
 use native.Mathlib.Omega.{arith}
-use Prim.Native.Nat.{_+_, _*_}
 use Rattle.edges.specs.declared.Edge.{Edge}
 use Rattle.turns.specs.Rounds.{Named, named, board, Reach}
 use Rattle.turns.proofs.Folds.{raise-more, raise-same}
@@ -10,20 +9,19 @@ use Rattle.turns.proofs.step.Statement.{statement}
 use Rattle.turns.proofs.step.Tie as tie
 
 abbrev P : tie.After-edge-of → tie.Start
-P c = c .before .before .before .before .before .before .before
+P c = c .before .before .before .before .before
 
 -- the arc that the call made reaches nodes
-reach : (c : tie.After-edge-of) → let a = P c .args in Reach (c .edge-of .result) (a .old .now) (a .new .now) (a .marks .now) (a .turn .round * 192)
-reach c = let s = P c in let a = s .args in subst (λ (e : Edge). Reach e (a .old .now) (a .new .now) (a .marks .now) (a .turn .round * 192)) (sym (c .edge-of .ensures)) (s .pre .reach)
+reach : (c : tie.After-edge-of) → let a = P c .args in Reach (c .edge-of .result) (a .old .now) (a .new .now) (a .row .now)
+reach c = let s = P c in let a = s .args in subst (λ (e : Edge). Reach e (a .old .now) (a .new .now) (a .row .now)) (sym (c .edge-of .ensures)) (s .pre .reach)
 
 abbrev A : tie.Start → Named
-A c = let a = c .args in named (a .w) (a .turn .at) (a .turn .first + a .i)
+A c = let a = c .args in named (a .w) (a .turn .at)
 
-add-mark-at : tie.Need-add-mark-at
-add-mark-at c = search needs
-
-mark-at-requires : tie.Need-mark-at-requires
-mark-at-requires c κs = search needs
+-- the mark is that of the arc
+marked : (c : tie.After-mark-of) → c .mark-of .result ≡ A (P (c .before .before .before .before .before .before)) .mark
+marked c = let e = c .before .before .before .before .before .before in
+    omega (arith, c .mark-of .ensures, ap (λ (x : Edge). x .departure) (e .edge-of .ensures))
 
 edge-of-requires : tie.Need-edge-of-requires
 edge-of-requires c κs = search needs
@@ -52,17 +50,14 @@ mul-new c = let r = reach (c .before .before .before .before .before) in omega a
 slice-write-new : tie.Need-slice-write-new
 slice-write-new c = let r = reach (c .before .before .before .before .before) in omega arith
 
-mul-marks : tie.Need-mul-marks
-mul-marks c = let e = c .before .before .before .before .before .before in let r = reach e in omega (arith, r .marks-in, P e .pre .marks-few)
+mark-of-requires : tie.Need-mark-of-requires
+mark-of-requires c κs = let e = c .before .before .before .before .before in (reach e .departs-few, omega (arith, P e .pre .kind-few))
 
-add-marks : tie.Need-add-marks
-add-marks c = let e = c .before .before .before .before .before .before in let r = reach e in omega (arith, r .marks-in, P e .pre .marks-few)
+mul-row : tie.Need-mul-row
+mul-row c = let r = reach (c .before .before .before .before .before .before) in omega arith
 
-mul-marks-2 : tie.Need-mul-marks-2
-mul-marks-2 c = let e = c .before .before .before .before .before .before in let r = reach e in omega (arith, r .marks-in, P e .pre .marks-few)
-
-slice-write-marks : tie.Need-slice-write-marks
-slice-write-marks c = let r = reach (c .before .before .before .before .before .before) in omega arith
+slice-write-row : tie.Need-slice-write-row
+slice-write-row c = let r = reach (c .before .before .before .before .before .before) in omega arith
 
 same-length : tie.Need-same-length
 same-length c = search needs
@@ -72,18 +67,16 @@ same-length-2 c = search needs
 
 returns : tie.Need-returns
 returns c = let e = c .before .before .before .before .before .before in let m = c .before .before .before .less in let s = P e in let a = s .args in
-    raise-more (a .old .now) (a .turn .round * 192) (A s) (board (a .new .now) (a .marks .now)) (e .before .mark-at .result) (e .edge-of .result) (m .result) (e .before .mark-at .ensures) (e .edge-of .ensures) (m .ensures) (c .before .if1 .taken)
+    raise-more (a .old .now) (A s) (board (a .new .now) (a .row .now)) (c .mark-of .result) (e .edge-of .result) (m .result) (marked c) (e .edge-of .ensures) (m .ensures) (omega (arith, c .before .if1 .taken))
 
 returns-2 : tie.Need-returns-2
 returns-2 c = let e = c .before .before .before .before .before in let m = c .before .before .less in let s = P e in let a = s .args in
-    raise-same (a .old .now) (a .turn .round * 192) (A s) (board (a .new .now) (a .marks .now)) (e .before .mark-at .result) (e .edge-of .result) (m .result) (e .before .mark-at .ensures) (e .edge-of .ensures) (m .ensures) (c .if1 .left)
+    raise-same (a .old .now) (A s) (board (a .new .now) (a .row .now)) (A s .mark) (e .edge-of .result) (m .result) refl (e .edge-of .ensures) (m .ensures) (omega (arith, c .if1 .left))
 
 pub step-spec : {M : Type 1} → statement M
 step-spec =
     tie.close
     (tie.spec
-    add-mark-at
-    mark-at-requires
     edge-of-requires
     mul-less
     shared-slice-read-less
@@ -93,10 +86,9 @@ step-spec =
     slice-read-if1
     mul-new
     slice-write-new
-    mul-marks
-    add-marks
-    mul-marks-2
-    slice-write-marks
+    mark-of-requires
+    mul-row
+    slice-write-row
     same-length
     same-length-2
     returns

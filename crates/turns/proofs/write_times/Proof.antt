@@ -1,7 +1,6 @@
 -- The invariant: the places passed are written. The measure is what is left.
 use Prim.Native.Nat.{_-_, _≤_}
 use native.Mathlib.Omega.{arith}
-use native.Mathlib.Nat.{le-antisymm}
 use Rattle.turns.proofs.Filling.{Filling, filling-none, filling-more, filled}
 use borrow.Author.Needs.{needs}
 use Rattle.turns.proofs.write_times.Statement.{statement}
@@ -36,13 +35,13 @@ loop-less c = search needs
 
 loop-again : tie.Need-loop-again Inv-loop μ-loop
 loop-again c = let l = c .before .before in let a = l .before .args in
-    (omega arith, filling-more (a .times .now) (a .count) (l .loop .v) (a .into .now) (l .loop .into) (l .loop .inv .1) (c .before .loop-test .taken) (omega (arith, l .loop .inv .1 .long)))
+    (omega arith, filling-more (a .times .now) (a .count) (l .loop .v) (a .into .now) (l .loop .into) (l .loop .inv .1) (omega arith) (omega (arith, l .loop .inv .1 .long)))
 
 same-length : tie.Need-same-length Inv-loop μ-loop
 same-length c = search needs
 
 returns : tie.Need-returns Inv-loop μ-loop
-returns c = let l = c .before in let a = l .before .args in filled (a .times .now) (a .count) (l .loop .v) (a .into .now) (l .loop .into) (l .loop .inv .1) (le-antisymm (l .loop .inv .0) (c .loop-test .left))
+returns c = let l = c .before in let a = l .before .args in filled (a .times .now) (a .count) (l .loop .v) (a .into .now) (l .loop .into) (l .loop .inv .1) (omega arith)
 
 pub write-times-spec : {M : Type 1} → statement M
 write-times-spec =
