@@ -222,52 +222,52 @@ module _ (s : Sheet) (tables : List ℤ) (schedule : List ℕ) (alike : Alike s 
 -- only a call that is not refused reads limits
 module _ (s : Sheet) (tables : List ℤ) (schedule : List ℕ) (same : refusal s ≡ refusal (lent s tables schedule)) (alike : refusal s ≡ 0 → Alike s tables schedule) where
   module _ (p q : ℕ) (plan₀ circuit₀ : List ℕ) where
-    ask-refused : ask.ask_refusal (lent s tables schedule) p q plan₀ circuit₀ ≡ ask.ask_refusal s p q plan₀ circuit₀
-    ask-refused = rw (← same)
+    ask_refused : ask.ask_refusal (lent s tables schedule) p q plan₀ circuit₀ ≡ ask.ask_refusal s p q plan₀ circuit₀
+    ask_refused = rw (← same)
 
     -- THEOREM: an outcome of Ask for the sheet is one for the other
     pub ask_alike : (a : Answer) (plan circuit : List ℕ) → ask.Outcome s p q plan₀ circuit₀ a plan circuit → ask.Outcome (lent s tables schedule) p q plan₀ circuit₀ a plan circuit
     ask_alike a plan circuit (ask.accepted r e none is) =
-        ask.accepted r e (ask-refused ∙ none) (accepts_same s tables schedule (alike (otherwise_none (refusal s) _ none).0) p q plan₀ circuit₀ r plan circuit is)
+        ask.accepted r e (ask_refused ∙ none) (accepts_same s tables schedule (alike (otherwise_none (refusal s) _ none).0) p q plan₀ circuit₀ r plan circuit is)
     ask_alike a plan circuit (ask.refuted cs e none is) =
-        ask.refuted cs e (ask-refused ∙ none) (shows_same s tables schedule (alike (otherwise_none (refusal s) _ none).0) p q plan₀ circuit₀ cs plan circuit is)
-    ask_alike a plan circuit (ask.refused k e is some same same') = ask.refused k e (ask-refused ∙ is) some same same'
+        ask.refuted cs e (ask_refused ∙ none) (shows_same s tables schedule (alike (otherwise_none (refusal s) _ none).0) p q plan₀ circuit₀ cs plan circuit is)
+    ask_alike a plan circuit (ask.refused k e is some same same') = ask.refused k e (ask_refused ∙ is) some same same'
 
   module _ (first₀ second₀ : List ℕ) where
-    ends-refused : ends.ends_refusal (lent s tables schedule) first₀ second₀ ≡ ends.ends_refusal s first₀ second₀
-    ends-refused = rw (← same)
+    ends_refused : ends.ends_refusal (lent s tables schedule) first₀ second₀ ≡ ends.ends_refusal s first₀ second₀
+    ends_refused = rw (← same)
 
     -- THEOREM: an outcome of Ends for the sheet is one for the other
     pub ends_alike : (a : Answer) (first last : List ℕ) → ends.Outcome s first₀ second₀ a first last → ends.Outcome (lent s tables schedule) first₀ second₀ a first last
     ends_alike a first last (ends.found t b h cs ds e none is same same') =
-        ends.found t b h cs ds e (ends-refused ∙ none) (finds_same s tables schedule (alike (otherwise_none (refusal s) _ none).0) t b h cs ds is) same same'
+        ends.found t b h cs ds e (ends_refused ∙ none) (finds_same s tables schedule (alike (otherwise_none (refusal s) _ none).0) t b h cs ds is) same same'
     ends_alike a first last (ends.none cs ds e none is same same') =
-        ends.none cs ds e (ends-refused ∙ none) (lacks_same s tables schedule (alike (otherwise_none (refusal s) _ none).0) cs ds is) same same'
-    ends_alike a first last (ends.refused k e is some same same') = ends.refused k e (ends-refused ∙ is) some same same'
+        ends.none cs ds e (ends_refused ∙ none) (lacks_same s tables schedule (alike (otherwise_none (refusal s) _ none).0) cs ds is) same same'
+    ends_alike a first last (ends.refused k e is some same same') = ends.refused k e (ends_refused ∙ is) some same same'
 
   module _ (p q : ℕ) (list : List ℤ) where
-    times-refused : proposedTimes.times_refusal (lent s tables schedule) p q list ≡ proposedTimes.times_refusal s p q list
-    times-refused = rw (← same)
+    times_refused : proposedTimes.times_refusal (lent s tables schedule) p q list ≡ proposedTimes.times_refusal s p q list
+    times_refused = rw (← same)
 
     -- THEOREM: an outcome for proposed times for the sheet is one for the other
     pub times_alike : (a : Answer) → proposedTimes.Outcome s p q list a → proposedTimes.Outcome (lent s tables schedule) p q list a
     times_alike a (proposedTimes.accepted e none kept) =
-        proposedTimes.accepted e (times-refused ∙ none) (solves_there s tables schedule (alike (otherwise_none (refusal s) _ none).0) p q (proposedTimes.proposed s p q list) kept)
+        proposedTimes.accepted e (times_refused ∙ none) (solves_there s tables schedule (alike (otherwise_none (refusal s) _ none).0) p q (proposedTimes.proposed s p q list) kept)
     times_alike a (proposedTimes.broken c e none first) =
-        proposedTimes.broken c e (times-refused ∙ none) (first_broken_same s tables schedule (alike (otherwise_none (refusal s) _ none).0) p q list c first)
-    times_alike a (proposedTimes.refused k e is some) = proposedTimes.refused k e (times-refused ∙ is) some
+        proposedTimes.broken c e (times_refused ∙ none) (first_broken_same s tables schedule (alike (otherwise_none (refusal s) _ none).0) p q list c first)
+    times_alike a (proposedTimes.refused k e is some) = proposedTimes.refused k e (times_refused ∙ is) some
 
   module _ (p q : ℕ) (list : List ℕ) where
-    arcs-refused : proposedArcs.arcs_refusal (lent s tables schedule) p q list ≡ proposedArcs.arcs_refusal s p q list
-    arcs-refused = rw (← same)
+    arcs_refused : proposedArcs.arcs_refusal (lent s tables schedule) p q list ≡ proposedArcs.arcs_refusal s p q list
+    arcs_refused = rw (← same)
 
     -- THEOREM: an outcome for proposed arcs for the sheet is one for the other
     pub arcs_alike : (a : Answer) → proposedArcs.Outcome s p q list a → proposedArcs.Outcome (lent s tables schedule) p q list a
     arcs_alike a (proposedArcs.accepted cs e none is refutes) =
-        proposedArcs.accepted cs e (arcs-refused ∙ none) is (refutes_same s tables schedule (alike (otherwise_none (refusal s) _ none).0) p q cs refutes)
+        proposedArcs.accepted cs e (arcs_refused ∙ none) is (refutes_same s tables schedule (alike (otherwise_none (refusal s) _ none).0) p q cs refutes)
     arcs_alike a (proposedArcs.bad k e none first) =
-        proposedArcs.bad k e (arcs-refused ∙ none) (first_bad_same s tables schedule (alike (otherwise_none (refusal s) _ none).0) list k first)
+        proposedArcs.bad k e (arcs_refused ∙ none) (first_bad_same s tables schedule (alike (otherwise_none (refusal s) _ none).0) list k first)
     arcs_alike a (proposedArcs.faulty cs k e none sound fault) =
         let f = sound_same s tables schedule (alike (otherwise_none (refusal s) _ none).0) p q list cs k sound fault in
-        proposedArcs.faulty cs k e (arcs-refused ∙ none) f.0 f.1
-    arcs_alike a (proposedArcs.refused k e is some) = proposedArcs.refused k e (arcs-refused ∙ is) some
+        proposedArcs.faulty cs k e (arcs_refused ∙ none) f.0 f.1
+    arcs_alike a (proposedArcs.refused k e is some) = proposedArcs.refused k e (arcs_refused ∙ is) some

@@ -112,21 +112,21 @@ module _ (s : Sheet) where
       e : Edge
       e = (named (as_record o.of) (site_of o.position s.n s.positions p q)).edge
 
-      edge-made : a.edge ≡ e
+      edge_made : a.edge ≡ e
       unfolding e
-      edge-made = ap (λ (x : Named). x.edge) o.made
+      edge_made = ap (λ (x : Named). x.edge) o.made
 
-      mark-is : a.mark ≡ e.departure * 8 + k
+      mark_is : a.mark ≡ e.departure * 8 + k
       unfolding e k
-      mark-is = ap (λ (x : Named). x.mark) o.made
+      mark_is = ap (λ (x : Named). x.mark) o.made
 
-      kind-is : a.mark % 8 ≡ k
+      kind_is : a.mark % 8 ≡ k
       unfolding k
-      kind-is = ap (λ (m : ℕ). m % 8) mark-is ∙ mark_kind e.departure k (omega (arith, number_small o.of.kind))
+      kind_is = ap (λ (m : ℕ). m % 8) mark_is ∙ mark_kind e.departure k (omega (arith, number_small o.of.kind))
 
-      departure-is : a.mark / 8 ≡ e.departure
+      departure_is : a.mark / 8 ≡ e.departure
       unfolding k
-      departure-is = ap (λ (m : ℕ). m / 8) mark-is ∙ mark_departure e.departure k (omega (arith, number_small o.of.kind))
+      departure_is = ap (λ (m : ℕ). m / 8) mark_is ∙ mark_departure e.departure k (omega (arith, number_small o.of.kind))
 
       named_step : Step
       named_step = made o.of.kind (suc o.position) o.of.to o.of.from
@@ -137,57 +137,57 @@ module _ (s : Sheet) where
           let at = site_of o.position s.n s.positions p q in
           let x = site_places o.position s.n s.positions p q in
           let h = o.has in
-          ap (λ (v : ℕ). step_of s.n v a.mark) (ap (λ (y : Edge). y.arrival) edge-made)
-          ∙ ap₂ (λ (i u : ℕ). step_by s.n i u e.arrival) kind-is departure-is
+          ap (λ (v : ℕ). step_of s.n v a.mark) (ap (λ (y : Edge). y.arrival) edge_made)
+          ∙ ap₂ (λ (i u : ℕ). step_by s.n i u e.arrival) kind_is departure_is
           ∙ step_by_lem o.of.kind (as_record o.of) s.n at.q at.here at.next at.cross o.position x.1.0 x.0 x.1.1 h.to_event.0 h.to_event.1 h.from_event.0 h.from_event.1
 
-      at-mode : Has s (mode s (suc o.position)) o.of
-      at-mode = subst (λ (t : ℕ). Has s t o.of) (sym (ap (λ (x : ℕ). get_or s.schedule x 0) (mod-eq_of_lt o.below))) o.has
+      at_mode : Has s (mode s (suc o.position)) o.of
+      at_mode = subst (λ (t : ℕ). Has s t o.of) (sym (ap (λ (x : ℕ). get_or s.schedule x 0) (mod-eq_of_lt o.below))) o.has
 
-      arc-is : step_arc s (step_of s.n a.edge.arrival a.mark) ≡ arc_of s (suc o.position) o.of
+      arc_is : step_arc s (step_of s.n a.edge.arrival a.mark) ≡ arc_of s (suc o.position) o.of
       unfolding named_step
-      arc-is = ap (step_arc s) step_is ∙ ap (λ (z : ℤ). arc s (suc o.position) o.of.kind o.of.to o.of.from z) at-mode.stands
+      arc_is = ap (step_arc s) step_is ∙ ap (λ (z : ℤ). arc s (suc o.position) o.of.kind o.of.to o.of.from z) at_mode.stands
 
-      valid-step : Valid s named_step
+      valid_step : Valid s named_step
       unfolding named_step
-      valid-step =
-          record { from_first = omega arith; to_last = o.below; to_event = at-mode.to_event; from_event = at-mode.from_event; present = subst (λ (z : ℤ). z ≢ _) (sym at-mode.stands) at-mode.present }
+      valid_step =
+          record { from_first = omega arith; to_last = o.below; to_event = at_mode.to_event; from_event = at_mode.from_event; present = subst (λ (z : ℤ). z ≢ _) (sym at_mode.stands) at_mode.present }
 
       shown : Shown a.edge.arrival a.mark
       unfolding k
       shown =
           record {
-            valid = subst (Valid s) (sym step_is) valid-step;
-            kind = ap (λ (i : ℕ). number (kind_of i)) kind-is ∙ ap number (kind_number o.of.kind) ∙ sym kind-is;
-            leave = departure-is ∙ sym (ap (λ (x : Edge). x.departure) edge-made) ∙ ap (λ (x : Edge). x.departure) o.edge ∙ sym (ap (λ (x : Arc). x.departure) arc-is);
+            valid = subst (Valid s) (sym step_is) valid_step;
+            kind = ap (λ (i : ℕ). number (kind_of i)) kind_is ∙ ap number (kind_number o.of.kind) ∙ sym kind_is;
+            leave = departure_is ∙ sym (ap (λ (x : Edge). x.departure) edge_made) ∙ ap (λ (x : Edge). x.departure) o.edge ∙ sym (ap (λ (x : Arc). x.departure) arc_is);
           }
 
       -- the arc's numbers are the step's
       edge_of : a.edge ≡ weighed p q (step_arc s (step_of s.n a.edge.arrival a.mark))
-      edge_of = o.edge ∙ ap (weighed p q) (sym arc-is)
+      edge_of = o.edge ∙ ap (weighed p q) (sym arc_is)
 
     -- ---- the row
     module _ (row : List ℕ) (r v : ℕ) (t : MarkTold (round_arcs p q l start) row r v) where
-      told-source : Source s ok p q l start laid t.by
-      told-source = source s ok p q l start laid s.positions (omega arith) t.member
+      told_source : Source s ok p q l start laid t.by
+      told_source = source s ok p q l start laid s.positions (omega arith) t.member
 
-      told-shown : Shown v (get_or row v 0)
-      told-shown = rw t.marked (subst (λ (u : ℕ). Shown u t.by.mark) t.arrives (shown t.by told-source))
+      told_shown : Shown v (get_or row v 0)
+      told_shown = rw t.marked (subst (λ (u : ℕ). Shown u t.by.mark) t.arrives (shown t.by told_source))
 
-      told-edge : t.by.edge ≡ weighed p q (parent row v)
-      told-edge = edge_of t.by told-source ∙ ap₂ (λ (u m : ℕ). weighed p q (step_arc s (step_of s.n u m))) t.arrives (sym t.marked)
+      told_edge : t.by.edge ≡ weighed p q (parent row v)
+      told_edge = edge_of t.by told_source ∙ ap₂ (λ (u m : ℕ). weighed p q (step_arc s (step_of s.n u m))) t.arrives (sym t.marked)
 
       -- THEOREM: a mark that is told names the parent
-      told-came : Came (arcs s) p q r v (parent row v)
-      told-came =
+      told_came : Came (arcs s) p q r v (parent row v)
+      told_came =
           let k = t.round in
-          let e = told-edge in
+          let e = told_edge in
           let now = table_is s ok p q l start laid (suc k) v in (
             k,
             record {
               last = record { early = t.early; raised = omega (arith, t.raised, now, table_is s ok p q l start laid k v); kept = sym (table_is s ok p q l start laid r v) ∙ t.kept ∙ now };
               gives = record {
-                member = valid_in s (step_of s.n v (get_or row v 0)) told-shown.valid;
+                member = valid_in s (step_of s.n v (get_or row v 0)) told_shown.valid;
                 arrives = sym (ap (λ (x : Edge). x.arrival) e) ∙ t.arrives;
                 exact = omega (
                   arith,
@@ -214,7 +214,7 @@ module _ (s : Sheet) (ok : Admitted s) (p q : ℕ) (l : List Record) (start : Li
   parents : Row (arcs s) p q N (parent s row)
   parents u k =
       elim (dec_lt u N) [
-        | yes h ↦ told-came s ok p q l start laid row N u (here u h k)
+        | yes h ↦ told_came s ok p q l start laid row N u (here u h k)
         | no h ↦ absurd (omega (arith, table_outside (arcs s) p q (nodes s) (arcs_within s ok.size.some_positions) N u (omega arith)))
       ]
 
@@ -238,7 +238,7 @@ module _ (s : Sheet) (ok : Admitted s) (p q : ℕ) (l : List Record) (start : Li
   shown_on j h =
       let u = back (leaving (parent s row)) v j in
       let c = (follows j h).1.last in
-      told-shown s ok p q l start laid row N u (here u (inside j (omega arith)) (omega (arith, c.raised, c.kept)))
+      told_shown s ok p q l start laid row N u (here u (inside j (omega arith)) (omega (arith, c.raised, c.kept)))
 
   -- the way back by the marks is that by the parents
   pub same_way : (j : ℕ) → j ≤ N → back (before row) v j ≡ back (leaving (parent s row)) v j

@@ -129,11 +129,11 @@ module _ (line : Line) (tables : List ℤ) (schedule : List ℕ) (times : List �
       abbrev step : Step
       step = record { kind = k; position = suc g; to = suc i; from = suc j }
 
-      value-is : get_or (part g) (place_of n k i j) (pos 0) ≡ w
-      value-is = value_at s (get_or schedule g 0) (granted.sheet_ok.modes g h) granted.sheet_ok.size.long_tables k i j to from ∙ ap (λ (t : ℕ). entry s t k (suc i) (suc j)) (sym mode_is)
+      value_is : get_or (part g) (place_of n k i j) (pos 0) ≡ w
+      value_is = value_at s (get_or schedule g 0) (granted.sheet_ok.modes g h) granted.sheet_ok.size.long_tables k i j to from ∙ ap (λ (t : ℕ). entry s t k (suc i) (suc j)) (sym mode_is)
 
-      arc-is : arc_at line g (from_place n (place_of n k i j) w) ≡ weighed line.p line.q (arc_of s (suc g) window)
-      arc-is = ap (arc_at line g) (record_is n k i j w to from) ∙ edge_is s line.p line.q g h window (omega arith) (omega arith)
+      arc_is : arc_at line g (from_place n (place_of n k i j) w) ≡ weighed line.p line.q (arc_of s (suc g) window)
+      arc_is = ap (arc_at line g) (record_is n k i j w to from) ∙ edge_is s line.p line.q g h window (omega arith) (omega arith)
 
       has : absent w ≡ false → Has s (mode s (suc g)) window
       has e = record { to_event = (omega arith, to); from_event = (omega arith, from); stands = refl; present = absent_some w e }
@@ -181,27 +181,27 @@ module _ (line : Line) (tables : List ℤ) (schedule : List ℕ) (times : List �
           )
 
       -- the test of the place, by the window's arc
-      test-is : absent w ≡ false → let a = arc_of s (suc g) window in
+      test_is : absent w ≡ false → let a = arc_of s (suc g) window in
           test g (place_of n k i j) ≡ not (leb (lifted_at times a.departure + rise line.p line.q a) (lifted_at times a.arrival + fall line.p line.q a))
       unfolding breaks_at keeps_at
-      test-is e =
-          ap (λ (v : ℤ). breaks_at line g (place_of n k i j) v times) value-is
-          ∙ rw e (ap (λ (a : Edge). not (leb (lifted_at times a.departure + a.rise) (lifted_at times a.arrival + a.fall))) arc-is)
+      test_is e =
+          ap (λ (v : ℤ). breaks_at line g (place_of n k i j) v times) value_is
+          ∙ rw e (ap (λ (a : Edge). not (leb (lifted_at times a.departure + a.rise) (lifted_at times a.arrival + a.fall))) arc_is)
 
-      test-absent : absent w ≡ true → test g (place_of n k i j) ≡ false
+      test_absent : absent w ≡ true → test g (place_of n k i j) ≡ false
       unfolding breaks_at
-      test-absent e = ap (λ (v : ℤ). breaks_at line g (place_of n k i j) v times) value-is ∙ rw e
+      test_absent e = ap (λ (v : ℤ). breaks_at line g (place_of n k i j) v times) value_is ∙ rw e
 
       -- THEOREM: the place is broken exactly if its window is
       pub told : (test g (place_of n k i j) ≡ true) ↔ Broken s line.p line.q times step
-      told = (there (absent w) refl, back-again)
+      told = (there (absent w) refl, back_again)
         where
           there : (b : Bool) → absent w ≡ b → test g (place_of n k i j) ≡ true → Broken s line.p line.q times step
-          there true e t = absurd (clash (sym t ∙ test-absent e))
+          there true e t = absurd (clash (sym t ∙ test_absent e))
           there false e t =
               record {
                 present = record { from_first = omega arith; to_last = h; to_event = (omega arith, to); from_event = (omega arith, from); present = absent_some w e };
-                breaks = λ said. clash (sym t ∙ test-is e ∙ ap not (le-leb _ _ ((says e).1 said)));
+                breaks = λ said. clash (sym t ∙ test_is e ∙ ap not (le-leb _ _ ((says e).1 said)));
               }
 
           over : (b : Bool) → let a = arc_of s (suc g) window in leb (lifted_at times a.departure + rise line.p line.q a) (lifted_at times a.arrival + fall line.p line.q a) ≡ b
@@ -209,15 +209,15 @@ module _ (line : Line) (tables : List ℤ) (schedule : List ℕ) (times : List �
           over true t e breaks = absurd (breaks ((says e).0 (leb-true _ _ t)))
           over false t e breaks = refl
 
-          back-again : Broken s line.p line.q times step → test g (place_of n k i j) ≡ true
-          back-again b = let e = some_absent w b.present.present in test-is e ∙ ap not (over _ refl e b.breaks)
+          back_again : Broken s line.p line.q times step → test g (place_of n k i j) ≡ true
+          back_again b = let e = some_absent w b.present.present in test_is e ∙ ap not (over _ refl e b.breaks)
 
     -- THEOREM: the part of the mode may be searched
     pub spreads : Spreads (part g) line g times
     spreads k below e =
         let x = placed n k granted.sheet_ok.size.some_events below in
-        let v = ap (λ (i : ℕ). get_or (part g) i (pos 0)) x.is ∙ value-is x.kind x.to x.from x.to_few x.from_few in
-        subst (λ (a : Edge). Reach a times) (sym (ap₂ (λ (i : ℕ) (z : ℤ). arc_at line g (from_place n i z)) x.is v ∙ arc-is x.kind x.to x.from x.to_few x.from_few))
+        let v = ap (λ (i : ℕ). get_or (part g) i (pos 0)) x.is ∙ value_is x.kind x.to x.from x.to_few x.from_few in
+        subst (λ (a : Edge). Reach a times) (sym (ap₂ (λ (i : ℕ) (z : ℤ). arc_at line g (from_place n i z)) x.is v ∙ arc_is x.kind x.to x.from x.to_few x.from_few))
         (reach x.kind x.to x.from x.to_few x.from_few (sym (ap absent v) ∙ e))
 
   -- a window that is broken, by its position and its place
@@ -225,7 +225,7 @@ module _ (line : Line) (tables : List ℤ) (schedule : List ℕ) (times : List �
     position : ℕ
     to : ℕ
     from : ℕ
-    position-is : d.position ≡ suc position
+    position_is : d.position ≡ suc position
     to_is : d.to ≡ suc to
     from_is : d.from ≡ suc from
     below : position < line.positions
@@ -244,7 +244,7 @@ module _ (line : Line) (tables : List ℤ) (schedule : List ℕ) (times : List �
           let h = b.present.to_last in
           let to = b.present.to_event.1 in
           let from = b.present.from_event.1 in
-          record { position = g; to = i; from = j; position-is = refl; to_is = refl; from_is = refl; below = h; to_few = to; from_few = from; holds = (told g h k i j to from).1 b }
+          record { position = g; to = i; from = j; position_is = refl; to_is = refl; from_is = refl; below = h; to_few = to; from_few = from; holds = (told g h k i j to from).1 b }
 
   -- what comes before in the order of windows has a smaller place
   smaller_kind : (k k' : Kind) (i i' j j' : ℕ) → i < n → j < n → number k < number k' → place_of n k i j < place_of n k' i' j'
@@ -274,17 +274,17 @@ module _ (line : Line) (tables : List ℤ) (schedule : List ℕ) (times : List �
           )
 
       -- a place before is not broken
-      not-before : (d : Step) (f : Found d) → f.position ≡ g → place_of n d.kind f.to f.from < k → ⊥
-      not-before d f e l = clash (sym f.holds ∙ ap (λ (h : ℕ). test h (place_of n d.kind f.to f.from)) e ∙ first.before _ l)
+      not_before : (d : Step) (f : Found d) → f.position ≡ g → place_of n d.kind f.to f.from < k → ⊥
+      not_before d f e l = clash (sym f.holds ∙ ap (λ (h : ℕ). test h (place_of n d.kind f.to f.from)) e ∙ first.before _ l)
 
       before : (x : Placed n k) (d : Step) → Broken s line.p line.q times d → Before d (record { kind = x.kind; position = suc g; to = suc x.to; from = suc x.from }) → ⊥
       before x d b (inl l) =
-          let f = find d b in clash (sym f.holds ∙ earlier f.position (omega (arith, f.position-is)) _ (place_few n d.kind f.to f.from f.to_few f.from_few))
+          let f = find d b in clash (sym f.holds ∙ earlier f.position (omega (arith, f.position_is)) _ (place_few n d.kind f.to f.from f.to_few f.from_few))
       before x d b (inr (inl l)) =
-          let f = find d b in not-before d f (omega (arith, f.position-is, l.0)) (omega (arith, x.is, smaller_kind d.kind x.kind f.to x.to f.from x.from f.to_few f.from_few l.1))
+          let f = find d b in not_before d f (omega (arith, f.position_is, l.0)) (omega (arith, x.is, smaller_kind d.kind x.kind f.to x.to f.from x.from f.to_few f.from_few l.1))
       before x d b (inr (inr (inl l))) =
           let f = find d b in
-          not-before d f (omega (arith, f.position-is, l.0)) (omega (
+          not_before d f (omega (arith, f.position_is, l.0)) (omega (
             arith,
             x.is,
             ap (λ (t : ℕ). t * (n * n)) l.1,
@@ -293,7 +293,7 @@ module _ (line : Line) (tables : List ℤ) (schedule : List ℕ) (times : List �
       before x d b (inr (inr (inr l))) =
           let f = find d b in
           let same : f.to ≡ x.to = omega (arith, f.to_is, l.2) in
-          not-before d f (omega (arith, f.position-is, l.0)) (omega (arith, x.is, ap (λ (t : ℕ). t * (n * n)) l.1, ap (λ (t : ℕ). t * n) same, f.from_is, l.3))
+          not_before d f (omega (arith, f.position_is, l.0)) (omega (arith, x.is, ap (λ (t : ℕ). t * (n * n)) l.1, ap (λ (t : ℕ). t * n) same, f.from_is, l.3))
 
   -- THEOREM: where no place is broken the times keep every window
   pub none_broken : ((g : ℕ) → g < line.positions → (k : ℕ) → k < 4 * (n * n) → test g k ≡ false) → Outcome s line.p line.q times (answer_times Accepted)

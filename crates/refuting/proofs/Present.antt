@@ -50,7 +50,7 @@ module _ (s : Sheet) where
   -- what the test of four numbers says
   record Names (a : Four) : Type 0 where
     few_kinds : a.kind < 4
-    in-schedule : (1 ≤ a.position) × (a.position ≤ s.positions)
+    in_schedule : (1 ≤ a.position) × (a.position ≤ s.positions)
     to_event : Event s a.to
     from_event : Event s a.from
 
@@ -59,13 +59,13 @@ module _ (s : Sheet) where
       let x = both _ (within s.n a.from) e in
       let y = both _ (within s.n a.to) x.0 in
       let z = both (ltb a.kind 4) (within s.positions a.position) y.0 in
-      record { few_kinds = ltb-true a.kind 4 z.0; in-schedule = within_is _ _ z.1; to_event = within_is _ _ y.1; from_event = within_is _ _ x.1 }
+      record { few_kinds = ltb-true a.kind 4 z.0; in_schedule = within_is _ _ z.1; to_event = within_is _ _ y.1; from_event = within_is _ _ x.1 }
 
   -- the numbers name a place of the tables
   pub named_place : refusal s ≡ 0 → (a : Four) → named s.n s.positions a ≡ true → NamesPlace s a.kind a.position a.to a.from
   named_place ok a e =
       let t = names a e in
-      record { admitted = ok; few_kinds = t.few_kinds; from_first = t.in-schedule.0; to_last = t.in-schedule.1; to_event = t.to_event; from_event = t.from_event }
+      record { admitted = ok; few_kinds = t.few_kinds; from_first = t.in_schedule.0; to_last = t.in_schedule.1; to_event = t.to_event; from_event = t.from_event }
 
   -- a window that is present is named
   pub present_named : (a : Four) → present s a ≡ true → named s.n s.positions a ≡ true
@@ -94,8 +94,8 @@ module _ (s : Sheet) where
           record { kind = kind.0; position = a.position; to = a.to; from = a.from },
           record { kind = kind.1; position = refl; to = refl; from = refl },
           record {
-            from_first = t.in-schedule.0;
-            to_last = t.in-schedule.1;
+            from_first = t.in_schedule.0;
+            to_last = t.in_schedule.1;
             to_event = t.to_event;
             from_event = t.from_event;
             present = absent_some _ (ap (λ (x : ℕ). absent (limit_of s x a.position a.to a.from)) (sym kind.1) ∙ not-true _ b.1);

@@ -130,8 +130,8 @@ module _ (line : Line) (tables : List ℤ) (schedule list : List ℕ) (many : �
     leaves_at k below = ap (λ (x : Edge). x.departure) (edge_at k below)
 
     -- there are at most 192 arcs where no node is left twice
-    few-arcs : Distinct (departures A) → many ≤ 192
-    few-arcs once =
+    few_arcs : Distinct (departures A) → many ≤ 192
+    few_arcs once =
         let ok = accepted S r.ready.admitted in
         omega (arith, long, nodes_few S ok, distinct_few D (nodes S) A once (λ k below. node ok k (omega (arith, long, counted))))
       where
@@ -163,7 +163,7 @@ module _ (line : Line) (tables : List ℤ) (schedule list : List ℕ) (many : �
       apart j h i before (leaves_at steps sound i (omega arith) ∙ e ∙ sym (leaves_at steps sound j h)))
 
   pub once_few : TellsOf S list (λ a. Distinct (departures a)) true → many ≤ 192
-  once_few says = let t = read_steps in few-arcs t.0 t.1 (says t.0 t.1)
+  once_few says = let t = read_steps in few_arcs t.0 t.1 (says t.0 t.1)
 
   pub smallest_not : (first arc : Edge) (k : ℕ) → k < many → first ≡ E 0 → arc ≡ E k → arc.departure < first.departure → TellsOf S list (λ a. FirstSmallest (departures a)) false
   smallest_not first arc k below ef ea less steps sound smallest =

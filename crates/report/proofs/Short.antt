@@ -57,8 +57,8 @@ module _ (s : Sheet) (admitted : refusal s ≡ 0) where
   valid cs (inr c) = c.valid
 
   module _ (cs : List Step) (h : CircuitOrNone s cs) where
-    circuit-short : (word : List ℕ) → length word ≤ 6 → length (circuit_lines word cs) ≤ 2140
-    circuit-short word short =
+    circuit_short : (word : List ℕ) → length word ≤ 6 → length (circuit_lines word cs) ≤ 2140
+    circuit_short word short =
         omega (
           arith,
           length-append (line word (decimal (length cs) ∷ [])) (each cs arc_line),
@@ -68,9 +68,9 @@ module _ (s : Sheet) (admitted : refusal s ≡ 0) where
           few_192 s admitted cs h,
         )
 
-    high-short : (high : High) → length (high_lines high cs) ≤ 2140
-    high-short open_end = omega arith
-    high-short (up_to top bottom) = circuit-short high_word (omega arith)
+    high_short : (high : High) → length (high_lines high cs) ≤ 2140
+    high_short open_end = omega arith
+    high_short (up_to top bottom) = circuit_short high_word (omega arith)
 
 -- ---- the lines of a plan
 
@@ -164,8 +164,8 @@ ends_short s admitted text t =
       line_three ends_word (fraction t.top t.bottom) (high_spelled t.high),
       fraction_most t.top t.bottom,
       high_most t.high,
-      circuit-short s admitted t.first t.finds.first_circuit low_word (omega arith),
-      high-short s admitted t.second t.finds.second_circuit t.high,
+      circuit_short s admitted t.first t.finds.first_circuit low_word (omega arith),
+      high_short s admitted t.second t.finds.second_circuit t.high,
       plan_short s admitted t.top t.bottom t.rounds t.plan (omega (arith, low.few)) low.small t.plan_is t.rounds_are,
     )
 
@@ -179,8 +179,8 @@ none_short s admitted text t =
       length-append (line none_word [] ++ firsts) seconds,
       length-append (line none_word []) firsts,
       line_one none_word,
-      circuit-short s admitted t.first t.lacks.first_circuit first_word (omega arith),
-      circuit-short s admitted t.second t.lacks.second_circuit second_word (omega arith),
+      circuit_short s admitted t.first t.lacks.first_circuit first_word (omega arith),
+      circuit_short s admitted t.second t.lacks.second_circuit second_word (omega arith),
     )
 
 -- THEOREM: every report has room

@@ -49,30 +49,30 @@ module _ (s : Sheet) (ok : refusal s ≡ 0) (p q : ℕ) (found : List ℕ) (coun
     weight_is : w ≡ weights_of s b.steps
     weight_is = weighed ∙ weights_are s ok b.steps b.rest found count b.circuit b.counted b.starts
 
-    ups-is : w.ups ≡ ups (map (step_arc s) b.steps)
+    ups_is : w.ups ≡ ups (map (step_arc s) b.steps)
     unfolding weights_of
-    ups-is = ap (λ (x : Weight). x.ups) weight_is
+    ups_is = ap (λ (x : Weight). x.ups) weight_is
 
-    downs-is : w.downs ≡ downs (map (step_arc s) b.steps)
+    downs_is : w.downs ≡ downs (map (step_arc s) b.steps)
     unfolding weights_of
-    downs-is = ap (λ (x : Weight). x.downs) weight_is
+    downs_is = ap (λ (x : Weight). x.downs) weight_is
 
-    forths-is : w.forths ≡ forths (map (step_arc s) b.steps)
+    forths_is : w.forths ≡ forths (map (step_arc s) b.steps)
     unfolding weights_of
-    forths-is = ap (λ (x : Weight). x.forths) weight_is
+    forths_is = ap (λ (x : Weight). x.forths) weight_is
 
-    backs-is : w.backs ≡ backs (map (step_arc s) b.steps)
+    backs_is : w.backs ≡ backs (map (step_arc s) b.steps)
     unfolding weights_of
-    backs-is = ap (λ (x : Weight). x.backs) weight_is
+    backs_is = ap (λ (x : Weight). x.backs) weight_is
 
     -- what `next_low` asks
     pub low_ready : w.forths < w.backs → w.downs ≤ w.ups
     low_ready falls =
         omega (
           arith,
-          ups-is,
-          downs-is,
-          falling_gains (arcs s) p q (map (step_arc s) b.steps) b.circuit.circuit b.above (omega (arith, forths-is, backs-is)),
+          ups_is,
+          downs_is,
+          falling_gains (arcs s) p q (map (step_arc s) b.steps) b.circuit.circuit b.above (omega (arith, forths_is, backs_is)),
         )
 
     -- on to the circuit's limit, with the circuit copied
@@ -80,8 +80,8 @@ module _ (s : Sheet) (ok : refusal s ≡ 0) (p q : ℕ) (found : List ℕ) (coun
         → LowHeld s (copied found (4 * count) low) top bottom count × Under p q top bottom
     low_on low before top bottom l falls r =
         let c = map (step_arc s) b.steps in
-        let worth : top * (backs c - forths c) ≡ (ups c - downs c) * bottom = rw (← ups-is, ← downs-is, ← forths-is, ← backs-is) r.worth in
-        let on = climb_on (nodes s) 1000000 s.n (arcs s) (sheet_laid s (accepted s ok)) p q (held_arcs s l.held) l.low c b.circuit.circuit b.above (omega (arith, forths-is, backs-is)) top bottom r.positive r.lowest worth in (
+        let worth : top * (backs c - forths c) ≡ (ups c - downs c) * bottom = rw (← ups_is, ← downs_is, ← forths_is, ← backs_is) r.worth in
+        let on = climb_on (nodes s) 1000000 s.n (arcs s) (sheet_laid s (accepted s ok)) p q (held_arcs s l.held) l.low c b.circuit.circuit b.above (omega (arith, forths_is, backs_is)) top bottom r.positive r.lowest worth in (
           record { held = held_in low; low = on.0 },
           on.1,
         )
@@ -91,7 +91,7 @@ module _ (s : Sheet) (ok : refusal s ≡ 0) (p q : ℕ) (found : List ℕ) (coun
         record {
           held₁ = held_in low;
           held₂ = record { steps = []; circuit = inl refl; counted = refl; rest = found; starts = refl };
-          shown = single b.circuit.circuit (omega (arith, ups-is, downs-is)) (omega (arith, forths-is, backs-is));
+          shown = single b.circuit.circuit (omega (arith, ups_is, downs_is)) (omega (arith, forths_is, backs_is));
         }
 
     pub low_both : (low : List ℕ) (before : ℕ) → LowHeld s low p q before → w.backs ≤ w.forths → w.ups ≤ w.downs → NoneHeld s low before found count
@@ -100,20 +100,20 @@ module _ (s : Sheet) (ok : refusal s ≡ 0) (p q : ℕ) (found : List ℕ) (coun
           held₁ = l.held;
           held₂ = held;
           shown = climb_both (nodes s) 1000000 s.n (arcs s) (sheet_laid s (accepted s ok)) p q (held_arcs s l.held) l.low (map (step_arc s) b.steps) b.circuit.circuit b.above
-              (omega (arith, forths-is, backs-is)) (omega (arith, ups-is, downs-is));
+              (omega (arith, forths_is, backs_is)) (omega (arith, ups_is, downs_is));
         }
 
     -- what `next_high` asks
     pub high_ready : Over s p q → (w.backs < w.forths) × (w.ups ≤ w.downs)
     high_ready o =
         let k = descend_climbs (nodes s) 1000000 s.n (arcs s) (sheet_laid s (accepted s ok)) o.top o.bottom o.positive o.works p q o.below (map (step_arc s) b.steps) b.circuit.circuit b.above in
-        (omega (arith, forths-is, backs-is, k.0), omega (arith, ups-is, downs-is, k.1))
+        (omega (arith, forths_is, backs_is, k.0), omega (arith, ups_is, downs_is, k.1))
 
     pub high_on : Over s p q → (high : List ℕ) (top bottom : ℕ) → Reduces (w.downs - w.ups) (w.forths - w.backs) top bottom
         → HighHeld s (copied found (4 * count) high) top bottom count × Under top bottom p q
     high_on o high top bottom r =
         let c = map (step_arc s) b.steps in
-        let worth : top * (forths c - backs c) ≡ (downs c - ups c) * bottom = rw (← ups-is, ← downs-is, ← forths-is, ← backs-is) r.worth in
+        let worth : top * (forths c - backs c) ≡ (downs c - ups c) * bottom = rw (← ups_is, ← downs_is, ← forths_is, ← backs_is) r.worth in
         let on = descend_on (nodes s) 1000000 s.n (arcs s) (sheet_laid s (accepted s ok)) o.top o.bottom o.positive o.works p q o.below c b.circuit.circuit b.above top bottom r.positive r.lowest worth in (
           record { held = held_in high; top_is = on.0 },
           on.1,

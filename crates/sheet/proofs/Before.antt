@@ -67,10 +67,10 @@ module _ {A : Type 0} {most : ℕ} {other file : List ℕ} where
 
   module _ {B : Type 0} {L : Type 0} {at : ℕ} {y : Part B} where
     -- one part after the other
-    then-kept : {x : Part B} (go to : B → ℕ → Part A) → Kept most other file ⊥ at y x → ((b : B) (next : ℕ) → Whole file next → Kept most other file L next (to b next) (go b next)) → Kept most other file L at (and_then y to) (and_then x go)
+    then_kept : {x : Part B} (go to : B → ℕ → Part A) → Kept most other file ⊥ at y x → ((b : B) (next : ℕ) → Whole file next → Kept most other file L next (to b next) (go b next)) → Kept most other file L at (and_then y to) (and_then x go)
     unfolding and_then
-    then-kept go to (read h p k) f = later p (λ i. then_value y to _ _ (k (λ n. n) i)) (f _ _ h)
-    then-kept go to (stop r s n l k t) f =
+    then_kept go to (read h p k) f = later p (λ i. then_value y to _ _ (k (λ n. n) i)) (f _ _ h)
+    then_kept go to (stop r s n l k t) f =
         stop r s (λ q. absurd (n q)) l (λ i g. record { short = λ q. then_refused y to _ ((k i g).short q); whole = λ q. absurd (n q) }) (fault_of (λ end q g i. then_refused y to _ (g i)) t)
 
     -- a part, put into another form
@@ -143,14 +143,14 @@ module _ (most : ℕ) (other file : List ℕ) (fits : most ≤ length other) (sa
   records_kept : (n count low at : ℕ) → Whole file at → Kept most other file ⊥ at (records_at other n count low at) (records_at file n count low at)
   unfolding records_at
   records_kept n zero low at h = read h (omega arith) (λ n i. refl)
-  records_kept n (suc count) low at h = then-kept _ _ (record_kept n low at h) λ w a g. got_kept (λ rest. w ∷ rest) (records_kept n count (w.place + 1) a g)
+  records_kept n (suc count) low at h = then_kept _ _ (record_kept n low at h) λ w a g. got_kept (λ rest. w ∷ rest) (records_kept n count (w.place + 1) a g)
 
   -- ---- modes, schedule, n, m and V
   modes_kept : (n m at : ℕ) → Whole file at → Kept most other file ⊥ at (modes_at other n m at) (modes_at file n m at)
   unfolding modes_at mode_at
   modes_kept n zero at h = read h (omega arith) (λ n i. refl)
   modes_kept n (suc m) at h =
-      then-kept _ _ (number_kept _ _ at _ _ refl (omega arith) h (λ i. refl) λ count a l q g e. later (omega arith) e (records_kept n count 0 a g)) λ windows a g.
+      then_kept _ _ (number_kept _ _ at _ _ refl (omega arith) h (λ i. refl) λ count a l q g e. later (omega arith) e (records_kept n count 0 a g)) λ windows a g.
       got_kept (λ rest. windows ∷ rest) (modes_kept n m a g)
 
   schedule_kept : (m positions at : ℕ) → Whole file at → Kept most other file ⊥ at (schedule_at other m positions at) (schedule_at file m positions at)
@@ -182,9 +182,9 @@ module _ (most : ℕ) (other file : List ℕ) (fits : most ≤ length other) (sa
   sheet_kept : Kept most other file Unit 0 (sheet_in other) (sheet_in file)
   unfolding sheet_in sheet_after tables_at
   sheet_kept =
-      then-kept _ _ counts_kept λ c a g.
-      then-kept _ _ (schedule_kept c.m c.positions a g) λ schedule b g.
-      got_kept _ (then-kept _ _ (modes_kept c.n c.m b g) λ modes d g. ended_kept (tables_of c.n modes) d g)
+      then_kept _ _ counts_kept λ c a g.
+      then_kept _ _ (schedule_kept c.m c.positions a g) λ schedule b g.
+      got_kept _ (then_kept _ _ (modes_kept c.n c.m b g) λ modes d g. ended_kept (tables_of c.n modes) d g)
 
 told : {most : ℕ} {other file : List ℕ} {y x : Part Sheet} (r : Refusal) → Kept most other file Unit 0 y x → x ≡ refused r → Stands file r × (r.at ≡ most → length other ≤ most → Before r y) × Fault file r (λ end. end ≤ most → y ≡ refused r)
 told r (read h p k) e = absurd (never (sym e))

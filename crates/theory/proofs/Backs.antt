@@ -330,11 +330,11 @@ module _ (colour : ℕ → ℕ) (c : ℕ) (before : ℕ → ℕ) (u : ℕ) where
 
     -- a node of another colour is new
     module _ (new : colour (back before u i) ≢ c) where
-      new-here : (j : ℕ) → j < i → back before u j ≢ back before u i
-      new-here j l = λ (e : back before u j ≡ back before u i). new (sym (ap colour e) ∙ s.marked j l)
+      new_here : (j : ℕ) → j < i → back before u j ≢ back before u i
+      new_here j l = λ (e : back before u j ≡ back before u i). new (sym (ap colour e) ∙ s.marked j l)
 
       new_apart : (a b : ℕ) → a < b → b < suc i → back before u a ≢ back before u b
-      new_apart = apart_more (back before u) i s.apart new-here
+      new_apart = apart_more (back before u) i s.apart new_here
 
       -- so there are not yet N
       pub coloured_room : (N : ℕ) → ((j : ℕ) → j ≤ i → back before u j < N) → i < N
@@ -345,7 +345,7 @@ module _ (colour : ℕ → ℕ) (c : ℕ) (before : ℕ → ℕ) (u : ℕ) where
       coloured_more colour' here other =
           record {
             marked = λ j l. elim (dec_lt j i) [
-              | yes m ↦ other (back before u j) (new-here j m) ∙ s.marked j m
+              | yes m ↦ other (back before u j) (new_here j m) ∙ s.marked j m
               | no m ↦ let same : i ≡ j = omega arith in subst (λ (j : ℕ). colour' (back before u j) ≡ c) same here
             ];
             only = λ x e. elim (ℕ_discrete x (back before u i)) [

@@ -205,25 +205,25 @@ module _ (N B K : ℕ) (arcs : List Arc) (laid : Laid N B K arcs) where
       ]
 
   module _ (a b : ℕ) (pos : 0 < b) (works : Works arcs a b) where
-    descend-step : (p q : ℕ) → AtMost a b p q → (k : Refuted arcs p q) → (c d : ℕ) × Top N B K arcs c d k.by × Under c d p q
-    descend-step p q h k =
+    descend_step : (p q : ℕ) → AtMost a b p q → (k : Refuted arcs p q) → (c d : ℕ) × Top N B K arcs c d k.by × Under c d p q
+    descend_step p q h k =
         let climbs = descend_climbs a b pos works p q h k.by k.circuit k.above in
         let r = reduce (downs k.by - ups k.by) (forths k.by - backs k.by) (omega arith) in
         let s = descend_on a b pos works p q h k.by k.circuit k.above r.top r.bottom r.positive r.lowest r.worth in
         (r.top, r.bottom, s.0, s.1)
 
-    descend-all : (f c d : ℕ) (e : List Arc) → floors c d K < f → Top N B K arcs c d e → (c' d' : ℕ) × (e' : List Arc) × Top N B K arcs c' d' e' × Works arcs c' d'
-    descend-all zero c d e h t = absurd (omega arith)
-    descend-all (suc f) c d e h t =
+    descend_all : (f c d : ℕ) (e : List Arc) → floors c d K < f → Top N B K arcs c d e → (c' d' : ℕ) × (e' : List Arc) × Top N B K arcs c' d' e' × Works arcs c' d'
+    descend_all zero c d e h t = absurd (omega arith)
+    descend_all (suc f) c d e h t =
         elim (works_or_refuted arcs c d N laid.within) [
           | inl x ↦ (c, d, e, t, x)
           | inr k ↦
-              let s = descend-step c d (t.most a b works) k in
-              descend-all f s.0 s.1 k.by (omega (arith, descend_less a b pos works c d e s.0 s.1 k.by t s.2 s.3)) s.2
+              let s = descend_step c d (t.most a b works) k in
+              descend_all f s.0 s.1 k.by (omega (arith, descend_less a b pos works c d e s.0 s.1 k.by t s.2 s.3)) s.2
         ]
 
-    found-high : (low : List Arc) → Low N B K arcs a b low → Found
-    found-high low l =
+    found_high : (low : List Arc) → Low N B K arcs a b low → Found
+    found_high low l =
         let P : ℕ = suc (N * B) in
         elim (works_or_refuted arcs P 1 N laid.within) [
           | inl x ↦ record {
@@ -237,8 +237,8 @@ module _ (N B K : ℕ) (arcs : List Arc) (laid : Laid N B K arcs) where
             high_shown = no_limit;
           }
           | inr k ↦
-              let s = descend-step P 1 (omega (arith, l.small, mul-le-mul_left P pos)) k in
-              let t = descend-all (suc (floors s.0 s.1 K)) s.0 s.1 k.by (omega arith) s.2 in
+              let s = descend_step P 1 (omega (arith, l.small, mul-le-mul_left P pos)) k in
+              let t = descend_all (suc (floors s.0 s.1 K)) s.0 s.1 k.by (omega arith) s.2 in
               record {
                 top = a;
                 bottom = b;
@@ -256,7 +256,7 @@ module _ (N B K : ℕ) (arcs : List Arc) (laid : Laid N B K arcs) where
   found some =
       elim (climb_all (suc (left_to_climb (N * B) K 0 1)) 0 1 [] (omega arith) (low_start some)) [
         | inl none ↦ inl none
-        | inr l ↦ inr (found-high l.0 l.1 l.3.positive l.4 l.2 l.3)
+        | inr l ↦ inr (found_high l.0 l.1 l.3.positive l.4 l.2 l.3)
       ]
 
   -- THEOREM: "none" is shown by circuits exactly if nothing works

@@ -89,10 +89,10 @@ module _ (arcs : List Arc) (p q : ℕ) where
 
   module _ (r : ℕ) where
     -- a parent holds with room to spare, or the node that it leaves was raised earlier
-    room-or-tie : (a : Arc) (j k : ℕ) → Last arcs p q r j a.departure → Parent arcs p q r k a.arrival a
+    room_or_tie : (a : Arc) (j k : ℕ) → Last arcs p q r j a.departure → Parent arcs p q r k a.arrival a
         → (table arcs p q r a.arrival + fall p q a < table arcs p q r a.departure + rise p q a)
         ⊎ ((table arcs p q r a.arrival + fall p q a ≤ table arcs p q r a.departure + rise p q a) × (j < k))
-    room-or-tie a j k s c =
+    room_or_tie a j k s c =
         let grown = table_mono arcs p q a.departure {r = k} {k = r} (omega (arith, c.last.early)) in
         elim (dec_lt (table arcs p q k a.departure) (table arcs p q r a.departure)) [
           | yes h ↦ inl (omega arith)
@@ -102,15 +102,15 @@ module _ (arcs : List Arc) (p q : ℕ) where
           ]
         ]
 
-    walk-room-or-tie : (w : List Arc) (u v j k : ℕ) → Walk arcs u w v → Parents arcs p q r w → Last arcs p q r j u → Last arcs p q r k v
+    walk_room_or_tie : (w : List Arc) (u v j k : ℕ) → Walk arcs u w v → Parents arcs p q r w → Last arcs p q r j u → Last arcs p q r k v
         → (table arcs p q r v + total (fall p q) w < table arcs p q r u + total (rise p q) w)
         ⊎ ((table arcs p q r v + total (fall p q) w ≤ table arcs p q r u + total (rise p q) w) × (j + length w ≤ k))
-    walk-room-or-tie [] u v j k h all s e =
+    walk_room_or_tie [] u v j k h all s e =
         inr (omega (arith, ap (table arcs p q r) h), omega (arith, last_same (subst (λ (x : ℕ). Last arcs p q r j x) h s) e))
-    walk-room-or-tie (a ∷ w) u v j k h all s e =
+    walk_room_or_tie (a ∷ w) u v j k h all s e =
         let c = all a (Memᴰ.head refl) in
-        let here = room-or-tie a j c.0 (rw h.1 s) c.1 in
-        let rest = walk-room-or-tie w a.arrival v c.0 k h.2 (λ b m. all b (Memᴰ.tail m)) c.1.last e in
+        let here = room_or_tie a j c.0 (rw h.1 s) c.1 in
+        let rest = walk_room_or_tie w a.arrival v c.0 k h.2 (λ b m. all b (Memᴰ.tail m)) c.1.last e in
         rw (← h.1) (elim here [
           | inl x ↦ elim rest [ inl y ↦ inl (omega arith) | inr y ↦ inl (omega arith) ]
           | inr x ↦ elim rest [ inl y ↦ inl (omega arith) | inr y ↦ inr (omega arith, omega arith) ]
@@ -122,7 +122,7 @@ module _ (arcs : List Arc) (p q : ℕ) where
         let end = walk_end arcs c ring.node ring.node ring.closed ring.nonempty in
         let k = (all end.0 end.1).0 in
         let s : Last arcs p q r k ring.node = subst (λ (x : ℕ). Last arcs p q r k x) end.2 (all end.0 end.1).1.last in
-        elim (walk-room-or-tie c ring.node ring.node k k ring.closed all s s) [
+        elim (walk_room_or_tie c ring.node ring.node k k ring.closed all s s) [
           | inl x ↦ omega arith
           | inr x ↦ absurd (omega (arith, ring.nonempty))
         ]

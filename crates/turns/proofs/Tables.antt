@@ -241,13 +241,13 @@ module _ (arcs : List Named) (N r node : ℕ) (old row new' row' : List ℕ) (in
         still = λ h. same;
         table = λ v h. times_next v h ∙ same v h;
         rising = b.rising;
-        told = λ v h some. told-still v h (same v h) (told_next v h (omega (arith, same v h)));
+        told = λ v h some. told_still v h (same v h) (told_next v h (omega (arith, same v h)));
         last = λ h. absurd (omega arith);
       }
     where
       -- a round that left v its time is not its last
-      told-still : (v : ℕ) → v < N → table_of arcs (suc r) v ≡ table_of arcs r v → MarkTold arcs row' (suc r) v → MarkTold arcs row' r v
-      told-still v h same t =
+      told_still : (v : ℕ) → v < N → table_of arcs (suc r) v ≡ table_of arcs r v → MarkTold arcs row' (suc r) v → MarkTold arcs row' r v
+      told_still v h same t =
           elim (dec_lt t.round r) [
             | yes l ↦ record { round = t.round; early = l; raised = t.raised; kept = omega (arith, same, t.kept); by = t.by; member = t.member; marked = t.marked; arrives = t.arrives; exact = t.exact }
             | no l ↦ let e : t.round ≡ r = omega (arith, t.early) in absurd (omega (arith, same, rw e at t.raised))

@@ -92,26 +92,26 @@ module _ (l : List Record) (job : Job) (schedule : List ℕ) (posed : Posed job 
     w : Walking t old new row
     w = s.walking more
 
-    at-is : t.at ≡ site_of t.position job.n job.positions job.p job.q
+    at_is : t.at ≡ site_of t.position job.n job.positions job.p job.q
     unfolding w
-    at-is = ap (λ (x : Turn). x.at) w.is
+    at_is = ap (λ (x : Turn). x.at) w.is
 
     first_is : t.first ≡ get_or job.start (get_or schedule t.position 0) 0
     unfolding w
     first_is = ap (λ (x : Turn). x.first) w.is
 
-    last-is : t.last ≡ get_or job.start (get_or schedule t.position 0 + 1) 0
+    last_is : t.last ≡ get_or job.start (get_or schedule t.position 0 + 1) 0
     unfolding w
-    last-is = ap (λ (x : Turn). x.last) w.is
+    last_is = ap (λ (x : Turn). x.last) w.is
 
     part_in : t.first ≤ t.last
-    part_in = omega (arith, first_is, last-is, parts.rising t.position w.here)
+    part_in = omega (arith, first_is, last_is, parts.rising t.position w.here)
 
     part_below : t.last ≤ length l
-    part_below = omega (arith, last-is, (parts.fine t.position w.here).few, room)
+    part_below = omega (arith, last_is, (parts.fine t.position w.here).few, room)
 
-    part-long : length (part_of l t) ≡ t.last - t.first
-    part-long = length-take-le (t.last - t.first) (drop t.first l) (omega (arith, part_in, part_below, length-drop t.first l))
+    part_long : length (part_of l t) ≡ t.last - t.first
+    part_long = length-take-le (t.last - t.first) (drop t.first l) (omega (arith, part_in, part_below, length-drop t.first l))
 
     part_at : (i : ℕ) → i < t.last - t.first → listed (part_of l t) i ≡ listed l (t.first + i)
     part_at i h = get_or-take (t.last - t.first) (drop t.first l) i blank h ∙ get_or-drop t.first l i blank
@@ -124,9 +124,9 @@ module _ (l : List Record) (job : Job) (schedule : List ℕ) (posed : Posed job 
           part_in = part_in;
           part_below = part_below;
           able = λ i h.
-              let k : i < t.last - t.first = omega (arith, part-long) in
-              rw (part_at i k) (able l job.n t.last N t.at (t.first + i) old new row (rw last-is (parts.fine t.position w.here))
-              (rw at-is (sited t.position job.n job.positions job.p job.q posed.limits posed.q_small w.here))
+              let k : i < t.last - t.first = omega (arith, part_long) in
+              rw (part_at i k) (able l job.n t.last N t.at (t.first + i) old new row (rw last_is (parts.fine t.position w.here))
+              (rw at_is (sited t.position job.n job.positions job.p job.q posed.limits posed.q_small w.here))
               (boards_same old old w.began new row N b (s.new_long ∙ sym s.old_long) (s.row_long ∙ sym w.long)) (omega arith));
           here = w.here;
           round = omega (arith, w.before, few);
@@ -137,7 +137,7 @@ module _ (l : List Record) (job : Job) (schedule : List ℕ) (posed : Posed job 
       done_more : board new' row' ≡ after old (W (t.position + 1)) (board old w.began)
       done_more =
           round_more l job.start schedule job.n job.positions job.p job.q old (board old w.began) t.position (board new row) (board new' row') w.done
-          (rw (← at-is, ← first_is, ← last-is) (passing ∙ ap (λ (x : List Named). after old x (board new row)) (pass_part t.at l (t.last - t.first) t.first (omega (arith, part_in, part_below)))))
+          (rw (← at_is, ← first_is, ← last_is) (passing ∙ ap (λ (x : List Named). after old x (board new row)) (pass_part t.at l (t.last - t.first) t.first (omega (arith, part_in, part_below)))))
 
       -- THEOREM: the turn after it stands as this one did, and fewer are left
       pub state_more : (t' : Turn) (old' : List ℕ) → Next t job schedule old new' t' old' → State t' old' new' row' × (t'.left < t.left)

@@ -209,8 +209,8 @@ module _ (s : Sheet) (some : 0 < s.positions) where
 
   module _ (p : ℕ) (x : Times) (periodic : Periodic s p x) (C : ℕ) (y : ℕ → ℕ) (lifted : Lifted s x C y) where
     -- so in every period
-    lifted-all : (g i : ℕ) → Event s i → y (node s (suc g) i) + p * period s (suc g) + down (x (suc g) i) ≡ up (x (suc g) i) + C
-    lifted-all g i event =
+    lifted_all : (g i : ℕ) → Event s i → y (node s (suc g) i) + p * period s (suc g) + down (x (suc g) i) ≡ up (x (suc g) i) + C
+    lifted_all g i event =
         omega (
           arith,
           lifted (suc (g % s.positions)) i (omega arith) (mod-lt g some) event,
@@ -220,15 +220,15 @@ module _ (s : Sheet) (some : 0 < s.positions) where
           ap (λ (r : ℕ). down (x r i)) (split_at g),
         )
 
-    lifted-plan : (q : ℕ) → Keeps s q x → Plan (arcs s) p q y
-    lifted-plan q keeps = (plan_iff p q y).1 go
+    lifted_plan : (q : ℕ) → Keeps s q x → Plan (arcs s) p q y
+    lifted_plan q keeps = (plan_iff p q y).1 go
       where
         go : Keeps s q (onwards s p y)
         go zero first a has = absurd (omega arith)
         go (suc g) first a has =
             moved_all s q x (suc g) (onwards s p y) (suc g) 0 C
-            (λ i event. omega (arith, lifted-all g i event))
-            (λ i event. omega (arith, lifted-all (suc g) i event))
+            (λ i event. omega (arith, lifted_all g i event))
+            (λ i event. omega (arith, lifted_all (suc g) i event))
             (mode s (suc g)) a has (keeps (suc g) first a has)
 
   -- ---- the first period as times of nodes
@@ -252,7 +252,7 @@ module _ (s : Sheet) (some : 0 < s.positions) where
 
   -- THEOREM: the first period of a solution from zero is a plan of the arcs
   pub solution_plan : (p q : ℕ) (x : Times) → Solves s p q x → FromZero s x → Plan (arcs s) p q (λ v. up (time_at s x v))
-  solution_plan p q x solves low = lifted-plan p x solves.periodic 0 (λ v. up (time_at s x v)) go q solves.keeps
+  solution_plan p q x solves low = lifted_plan p x solves.periodic 0 (λ v. up (time_at s x v)) go q solves.keeps
     where
       go : Lifted s x 0 (λ v. up (time_at s x v))
       go zero i first last event = absurd (omega arith)
@@ -268,7 +268,7 @@ module _ (s : Sheet) (some : 0 < s.positions) where
       there x =
           let b = bound (λ v. down (time_at s x.0 v)) (nodes s) in
           let y : ℕ → ℕ = λ v. (up (time_at s x.0 v) + b.0) - down (time_at s x.0 v) in
-          (y, lifted-plan p x.0 x.1.periodic b.0 y (lift x.0 b.0 y (λ v below. omega (arith, b.1 v below))) q x.1.keeps)
+          (y, lifted_plan p x.0 x.1.periodic b.0 y (lift x.0 b.0 y (λ v below. omega (arith, b.1 v below))) q x.1.keeps)
 
   -- THEOREM: a periodic solution is its first period, continued
   pub first_continued : (p : ℕ) (x : Times) → Periodic s p x → (g e : ℕ) → e < s.n → continued s p (time_at s x) (suc g) (suc e) ≡ x (suc g) (suc e)

@@ -33,7 +33,7 @@ module _ (s : Sheet) (some : 0 < s.positions) where
     small : (a.up ≤ B) × (a.down ≤ B)
     ones : (a.back ≤ 1) × (a.forth ≤ 1)
     back_last : 0 < a.back → pred s.positions * s.n ≤ a.departure
-    forth-first : 0 < a.forth → a.departure < s.n
+    forth_first : 0 < a.forth → a.departure < s.n
 
   -- the position after suc g is in the first period, or is the first of the next
   first_again : (g : ℕ) → g < s.positions → (suc g / s.positions ≤ 1) × (0 < suc g / s.positions → (pred s.positions ≡ g) × (suc g % s.positions ≡ 0))
@@ -52,7 +52,7 @@ module _ (s : Sheet) (some : 0 < s.positions) where
           small = (high, low);
           ones = (omega (arith, div-eq_of_lt small), omega (arith, div-eq_of_lt small));
           back_last = λ above. absurd (omega (arith, div-eq_of_lt small));
-          forth-first = λ above. absurd (omega (arith, div-eq_of_lt small));
+          forth_first = λ above. absurd (omega (arith, div-eq_of_lt small));
         }
 
     onward : Crosses B (link s (suc g) j (suc (suc g)) i u d)
@@ -61,7 +61,7 @@ module _ (s : Sheet) (some : 0 < s.positions) where
           small = (high, low);
           ones = ((first_again g small).0, omega (arith, div-eq_of_lt small));
           back_last = λ above. rw (mod-eq_of_lt small, ((first_again g small).1 above).0) (omega arith);
-          forth-first = λ above. absurd (omega (arith, div-eq_of_lt small));
+          forth_first = λ above. absurd (omega (arith, div-eq_of_lt small));
         }
 
     backward : Event s i → Crosses B (link s (suc (suc g)) i (suc g) j u d)
@@ -70,7 +70,7 @@ module _ (s : Sheet) (some : 0 < s.positions) where
           small = (high, low);
           ones = (omega (arith, div-eq_of_lt small), (first_again g small).0);
           back_last = λ above. absurd (omega (arith, div-eq_of_lt small));
-          forth-first = λ above. rw ((first_again g small).1 above).1 (omega arith);
+          forth_first = λ above. rw ((first_again g small).1 above).1 (omega arith);
         }
 
   crosses : (B h : ℕ) → 1 ≤ h → h ≤ s.positions → (k : Kind) (i j : ℕ) → Event s i → (w : ℤ) → up w ≤ B → down w ≤ B → Crosses B (arc s h k i j w)
@@ -81,31 +81,31 @@ module _ (s : Sheet) (some : 0 < s.positions) where
   crosses B (suc g) first last B1 i j a w u d = backward B g last i j (down w) (up w) d u a
 
   module _ (B : ℕ) (bounded : (h : ℕ) → 1 ≤ h → h ≤ s.positions → (a : Window) → Has s (mode s h) a → (up a.w ≤ B) × (down a.w ≤ B)) where
-    each-crosses : (c : Arc) → c ∈ arcs s → Crosses B c
-    each-crosses c m =
+    each_crosses : (c : Arc) → c ∈ arcs s → Crosses B c
+    each_crosses c m =
         let o = arcs_of_lem s c m in
         let b = bounded o.position o.from_first o.to_last o.of o.has in
         rw (← o.is) (crosses B o.position o.from_first o.to_last o.of.kind o.of.to o.of.from o.has.to_event o.of.w b.0 b.1)
 
-    last-range : (h n v : ℕ) → 0 < h → v < h * n → v < pred h * n + n
-    last-range zero n v p h = omega arith
-    last-range (suc h) n v p l = omega arith
+    last_range : (h n v : ℕ) → 0 < h → v < h * n → v < pred h * n + n
+    last_range zero n v p h = omega arith
+    last_range (suc h) n v p l = omega arith
 
     back_slots : Slots (λ a. a.back) s.n (arcs s)
     back_slots =
         record {
           slot = λ v. v - pred s.positions * s.n;
-          one = λ a m. (each-crosses a m).ones.0;
-          few = λ a m pos. omega (arith, (each-crosses a m).back_last pos, last-range s.positions s.n a.departure some (arcs_within a m).0);
-          apart = λ a b m m' pos pos' same. omega (arith, (each-crosses a m).back_last pos, (each-crosses b m').back_last pos');
+          one = λ a m. (each_crosses a m).ones.0;
+          few = λ a m pos. omega (arith, (each_crosses a m).back_last pos, last_range s.positions s.n a.departure some (arcs_within a m).0);
+          apart = λ a b m m' pos pos' same. omega (arith, (each_crosses a m).back_last pos, (each_crosses b m').back_last pos');
         }
 
     forth_slots : Slots (λ a. a.forth) s.n (arcs s)
     forth_slots =
         record {
           slot = λ v. v;
-          one = λ a m. (each-crosses a m).ones.1;
-          few = λ a m pos. (each-crosses a m).forth-first pos;
+          one = λ a m. (each_crosses a m).ones.1;
+          few = λ a m pos. (each_crosses a m).forth_first pos;
           apart = λ a b m m' pos pos' same. same;
         }
 
@@ -114,8 +114,8 @@ module _ (s : Sheet) (some : 0 < s.positions) where
     arcs_laid =
         record {
           within = arcs_within;
-          ups_small = λ a m. (each-crosses a m).small.0;
-          downs_small = λ a m. (each-crosses a m).small.1;
+          ups_small = λ a m. (each_crosses a m).small.0;
+          downs_small = λ a m. (each_crosses a m).small.1;
           back_slots = back_slots;
           forth_slots = forth_slots;
         }

@@ -49,13 +49,13 @@ module _ {s : Sheet} {first₀ second₀ first second : List ℕ} where
         ds = ds;
         counted₁ = sym v.3;
         counted₂ = sym v.4;
-        shown = finds-as t top b bottom h high cs ds (sym v.0) (sym v.1) (sym v.2) is;
+        shown = finds_as t top b bottom h high cs ds (sym v.0) (sym v.1) (sym v.2) is;
         first_is = same;
         second_is = same';
       }
     where
-      finds-as : (t t' b b' : ℕ) (h h' : High) (cs ds : List Step) → t ≡ t' → b ≡ b' → h ≡ h' → Finds s t b h cs ds → Finds s t' b' h' cs ds
-      finds-as t t' b b' h h' cs ds x y z f = rw (← x, ← y, ← z) f
+      finds_as : (t t' b b' : ℕ) (h h' : High) (cs ds : List Step) → t ≡ t' → b ≡ b' → h ≡ h' → Finds s t b h cs ds → Finds s t' b' h' cs ds
+      finds_as t t' b b' h h' cs ds x y z f = rw (← x, ← y, ← z) f
   found_is top bottom high count₁ count₂ (none cs ds e unrefused is same same') = absurd (omega (arith, number_same e))
   found_is top bottom high count₁ count₂ (refused k e is some same same') = absurd (some (sym (number_same e)))
 
@@ -66,10 +66,10 @@ module _ {s : Sheet} {first₀ second₀ first second : List ℕ} where
   none_is count₁ count₂ (refused k e is some same same') = absurd (omega (arith, many_same e))
 
   pub refused_is : (k : ℕ) → Outcome s first₀ second₀ (answer k []) first second → (ends_refusal s first₀ second₀ ≡ k) × (k ≢ 0) × (first ≡ first₀) × (second ≡ second₀)
-  refused_is k (found t b h cs ds e unrefused is same same') = absurd (some-values h (many_same e))
+  refused_is k (found t b h cs ds e unrefused is same same') = absurd (some_values h (many_same e))
     where
-      some-values : (h : High) → 0 ≡ length (ends_values t b h ++ length cs ∷ length ds ∷ []) → ⊥
-      some-values open_end f = omega (arith, f)
-      some-values (up_to x y) f = omega (arith, f)
+      some_values : (h : High) → 0 ≡ length (ends_values t b h ++ length cs ∷ length ds ∷ []) → ⊥
+      some_values open_end f = omega (arith, f)
+      some_values (up_to x y) f = omega (arith, f)
   refused_is k (none cs ds e unrefused is same same') = absurd (omega (arith, many_same e))
   refused_is k (refused j e is some same same') = (is ∙ sym (number_same e), (λ zero. some (sym (number_same e) ∙ zero)), same, same')

@@ -180,8 +180,8 @@ module _ (s : Sheet) where
         }
 
     -- its steps stand where they were written, and each leaves where the one before arrived
-    refutes-good : (steps : List Step) → Refutes s p q steps → (d : Step) (k : ℕ) → k < length steps → Good s (numbers steps) k
-    refutes-good steps r d k below = record { step = get_or steps k d; stands = read_back steps k d below; present = valid_at steps r.circuit.valid k d below; follows = go k below }
+    refutes_good : (steps : List Step) → Refutes s p q steps → (d : Step) (k : ℕ) → k < length steps → Good s (numbers steps) k
+    refutes_good steps r d k below = record { step = get_or steps k d; stands = read_back steps k d below; present = valid_at steps r.circuit.valid k d below; follows = go k below }
       where
         go : (k : ℕ) → k < length steps → Follows s (numbers steps) k (get_or steps k d)
         go zero below = tt
@@ -197,7 +197,7 @@ module _ (s : Sheet) where
           record {
             list_is = e;
             good = subst (λ (l : List ℕ). (k : ℕ) → k < count l → Good s l k) (sym e)
-                (λ k below. refutes-good steps r (record { kind = A0; position = 0; to = 0; from = 0 }) k (omega (arith, count_numbers steps)));
+                (λ k below. refutes_good steps r (record { kind = A0; position = 0; to = 0; from = 0 }) k (omega (arith, count_numbers steps)));
           },
           walk_closed c.node (map (step_arc s) steps) c.closed,
           c.distinct,

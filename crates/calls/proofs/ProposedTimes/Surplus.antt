@@ -28,8 +28,8 @@ module _ (s : Sheet) (p q : ℕ) (times times' : List ℤ) (same : take (nodes s
       rw (long, same)
 
   module _ (some : 0 < s.positions) where
-    time-same : (h i : ℕ) → Event s i → proposed s p q times h i ≡ proposed s p q times' h i
-    time-same h i event =
+    time_same : (h i : ℕ) → Event s i → proposed s p q times h i ≡ proposed s p q times' h i
+    time_same h i event =
         let v = node s h i in
         let below = node_inside s some h i event in
         ap (λ (z : ℤ). z +ℤ pos (p * period s h))
@@ -39,7 +39,7 @@ module _ (s : Sheet) (p q : ℕ) (times times' : List ℤ) (same : take (nodes s
     says_same h t a has says = moved_all s q (proposed s p q times) h (proposed s p q times') h 0 0 (at h) (at (suc h)) t a has says
       where
         at : (g : ℕ) → Moved s (proposed s p q times) g (proposed s p q times') g 0 0
-        at g i event = let e = time-same g i event in omega (arith, ap up e, ap down e)
+        at g i event = let e = time_same g i event in omega (arith, ap up e, ap down e)
 
     kept_same : Kept s p q times → Kept s p q times'
     kept_same kept = record { keeps = λ h first a has. says_same h (mode s h) a has (kept.keeps h first a has); periodic = continued_periodic s some p (λ v. get_or times' v (pos 0)) }

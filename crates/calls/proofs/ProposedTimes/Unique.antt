@@ -26,7 +26,7 @@ order a b =
 
 -- THEOREM: of two windows one comes before the other, or they are one
 pub before_or_same : (c d : Step) → Before c d ⊎ (c ≡ d) ⊎ Before d c
-before_or_same c d = by-position (order c.position d.position)
+before_or_same c d = by_position (order c.position d.position)
   where
     by_from : c.position ≡ d.position → number c.kind ≡ number d.kind → c.to ≡ d.to → (c.from < d.from) ⊎ (c.from ≡ d.from) ⊎ (d.from < c.from) → Before c d ⊎ (c ≡ d) ⊎ Before d c
     by_from x y z (inl h) = inl (inr (inr (inr (x, y, z, h))))
@@ -43,10 +43,10 @@ before_or_same c d = by-position (order c.position d.position)
     by_kind x (inr (inl e)) = by_to x e (order c.to d.to)
     by_kind x (inr (inr h)) = inr (inr (inr (inl (sym x, h))))
 
-    by-position : (c.position < d.position) ⊎ (c.position ≡ d.position) ⊎ (d.position < c.position) → Before c d ⊎ (c ≡ d) ⊎ Before d c
-    by-position (inl h) = inl (inl h)
-    by-position (inr (inl e)) = by_kind e (order (number c.kind) (number d.kind))
-    by-position (inr (inr h)) = inr (inr (inl h))
+    by_position : (c.position < d.position) ⊎ (c.position ≡ d.position) ⊎ (d.position < c.position) → Before c d ⊎ (c ≡ d) ⊎ Before d c
+    by_position (inl h) = inl (inl h)
+    by_position (inr (inl e)) = by_kind e (order (number c.kind) (number d.kind))
+    by_position (inr (inr h)) = inr (inr (inl h))
 
 module _ (s : Sheet) (p q : ℕ) (times : List ℤ) where
   -- THEOREM: the first window broken comes before every other that is broken

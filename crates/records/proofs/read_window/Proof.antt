@@ -26,8 +26,8 @@ abbrev S : tie.After-known-told → tie.Start
 S c = c.before.before.before.before.before
 
 -- each number as it was read
-kind-is : (c : tie.After-known-told) → tested (λ kind. leb kind 3) 6 (number_at (S c).args.file.now (S c).args.at) ≡ Value c.before.first.given.0.0 c.before.first.given.0.1.0 c.before.first.given.0.1.1.0
-kind-is c = sym c.before.before.before.kind_at.ensures ∙ c.before.first.given.1
+kind_is : (c : tie.After-known-told) → tested (λ kind. leb kind 3) 6 (number_at (S c).args.file.now (S c).args.at) ≡ Value c.before.first.given.0.0 c.before.first.given.0.1.0 c.before.first.given.0.1.1.0
+kind_is c = sym c.before.before.before.kind_at.ensures ∙ c.before.first.given.1
 
 to_is : (c : tie.After-known-told2) → tested (within (S (K1 c)).args.n) 6 (number_at (S (K1 c)).args.file.now (K1 c).before.first.given.0.1.1.0) ≡ Value c.before.second.given.0.0 c.before.second.given.0.1.0 c.before.second.given.0.1.1.0
 to_is c = sym c.before.before.before.number-within.ensures ∙ c.before.second.given.1
@@ -41,7 +41,7 @@ fit c =
     let t = within_is n (K2 c).before.second.given.0.0 (tested_value _ _ _ _ _ (to_is (K2 c))).1 in
     let f = within_is n c.before.third.given.0.0 (tested_value _ _ _ _ _ (from_is c)).1 in
     record {
-      kinds = leb-true _ _ (tested_value _ _ _ _ _ (kind-is (K1 (K2 c)))).1;
+      kinds = leb-true _ _ (tested_value _ _ _ _ _ (kind_is (K1 (K2 c)))).1;
       some_to = t.0;
       few_to = t.1;
       some_from = f.0;
@@ -85,7 +85,7 @@ returns-2 : tie.Need-returns-2
 unfolding record_at
 returns-2 c = let k = c.before.before.before.before in
     ap refused (refused_is _ _ _ c.refusal2.ensures c.before.enum-told2.given.1)
-    ∙ sym (after_value _ _ _ _ (kind-is k) ∙ after_refused _ _ _ (sym c.before.before.before.number-within.ensures ∙ c.before.enum-told2.given.1))
+    ∙ sym (after_value _ _ _ _ (kind_is k) ∙ after_refused _ _ _ (sym c.before.before.before.number-within.ensures ∙ c.before.enum-told2.given.1))
 
 number-within-requires-2 : tie.Need-number-within-requires-2
 number-within-requires-2 c κs = search rules
@@ -103,7 +103,7 @@ returns-3 : tie.Need-returns-3
 unfolding record_at
 returns-3 c = let k = c.before.before.before.before in
     ap refused (refused_is _ _ _ c.refusal3.ensures c.before.enum-told3.given.1)
-    ∙ sym (after_value _ _ _ _ (kind-is (K1 k)) ∙ after_value _ _ _ _ (to_is k) ∙ after_refused _ _ _ (sym c.before.before.before.number-within2.ensures ∙ c.before.enum-told3.given.1))
+    ∙ sym (after_value _ _ _ _ (kind_is (K1 k)) ∙ after_value _ _ _ _ (to_is k) ∙ after_refused _ _ _ (sym c.before.before.before.number-within2.ensures ∙ c.before.enum-told3.given.1))
 
 mul-place : tie.Need-overflow-mul-place
 mul-place c = omega (arith, steps c)
@@ -129,7 +129,7 @@ read-value-requires c κs = search rules
 returns-4 : tie.Need-returns-4
 unfolding record_at
 returns-4 c = let k = c.before in
-    c.read-value.ensures ∙ sym (after_value _ _ _ _ (kind-is (K1 (K2 k))) ∙ after_value _ _ _ _ (to_is (K2 k)) ∙ after_value _ _ _ _ (from_is k))
+    c.read-value.ensures ∙ sym (after_value _ _ _ _ (kind_is (K1 (K2 k))) ∙ after_value _ _ _ _ (to_is (K2 k)) ∙ after_value _ _ _ _ (from_is k))
 
 pub read-window-spec : {M : Type 1} → statement M
 read-window-spec =
