@@ -1,6 +1,7 @@
 // The circuit that shows there is no plan: back along the row of marks until a node is met again, and once round from there, written.
 // This crate knows marks and the arcs that they name; it knows no time, and runs no round.
 // It renders document 01's "Circuits".
+#![tactic(auto)]
 ghost use Rattle.std.specs.Prelude.{◌≡◌, ℕ, ◌+◌, ◌*◌, ◌/◌, ◌≤◌, ◌<◌, length};
 ghost use Rattle.std.proofs.lemmas.List.Edits.{sets};
 ghost use Rattle.theory.specs.Backs.{Returns};

@@ -1,6 +1,7 @@
 // One arc in numbers: where a window stands in the tables, and its arc at a position, from the place of one node to that of another with a weight.
 // This crate knows one window and one arc; it knows no list of them, no table of times and no circuit.
 // It renders document 01's "Arcs".
+#![tactic(auto)]
 ghost use Rattle.std.specs.Prelude.{◌≡◌, ◌-◌, ◌*◌, ◌≤◌, ◌<◌, length, get_or};
 ghost use Rattle.tables.specs.Sheets.{sheet, place};
 ghost use Rattle.windows.specs.Arcs.{up, down};
@@ -10,7 +11,7 @@ ghost use Rattle.edges.specs.Naming.{limit_of, NamesPlace};
 use numbers::wide;
 
 // A window as a record: its kind in numbers, the events "to" and "from", and its limit.
-#[derive(Drop)]
+#[derive(Clone, Copy)]
 pub struct Record {
     pub kind: u8,
     pub to: u8,
@@ -130,7 +131,7 @@ pub fn edge_of(w: Record, q: u64, here: usize, next: usize, cross: u64) -> Edge
 }
 
 // A sheet's sizes and a cycle time, as one value.
-#[derive(Drop)]
+#[derive(Clone, Copy)]
 pub struct Line {
     pub n: usize,
     pub m: usize,

@@ -1,6 +1,7 @@
 // Ends: the lowest and highest cycle time of a sheet in memory.
 // This crate knows low, high, "open" and "none" with the circuits that show them; it knows no file.
 // It renders document 01's "Ends" and the line on Ends in "Numbers a call can answer".
+#![tactic(auto)]
 ghost use Rattle.std.specs.Prelude.{◌≡◌, length};
 ghost use Rattle.tables.specs.Sheets.{sheet};
 ghost use Rattle.calls.specs.Ends.{ends_refusal, Outcome};
@@ -10,7 +11,7 @@ use search::buffers::copy;
 use search::{Climbed, Descended, Stand};
 
 // The highest cycle time: none, or a fraction in lowest terms.
-#[derive(Drop)]
+#[derive(Clone, Copy)]
 pub enum High {
     Open,
     UpTo { top: u64, bottom: u64 },

@@ -1,6 +1,7 @@
 // A circuit's own limit, from its sums: what the cycle time must reach, or must not pass.
 // This crate knows four sums at a time; it knows no arc and no sheet.
 // It renders document 01's "a circuit's total with q = 1 is W + c·(cycle time)" and the limits W/(-c) and -W/c of "Ends".
+#![tactic(auto)]
 ghost use Rattle.std.specs.Prelude.{◌-◌, ◌≤◌, ◌<◌};
 ghost use Rattle.theory.specs.Ends.{Reduces};
 ghost use Rattle.limits.specs.Limits.{Leads};

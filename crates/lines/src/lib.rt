@@ -1,6 +1,7 @@
 // The lines of a report, put one after the other into a buffer: each function puts its text from a place on and gives the place after it.
 // This crate knows how numbers, arcs, circuits, plans and refusals are spelled; it knows no call that gives them.
 // It renders the lines of document 01's "The report", with a refusal's place (document 02, E1).
+#![tactic(auto)]
 ghost use Rattle.std.specs.Prelude.{◌∷◌, map, ◌+◌, ◌*◌, ◌≤◌, ◌<◌, length, take, drop};
 ghost use Rattle.text.specs.Text.{decimal, space, Puts};
 ghost use Rattle.lines.specs.Lines.{following, fraction, numbers_line, refused_line};

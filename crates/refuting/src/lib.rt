@@ -1,6 +1,7 @@
 // Proposed arcs held to the sheet: are they a refutation at p/q, and if not, what is the first thing wrong with them?
 // This crate knows a list of arcs of any length, four numbers each; it knows no plan, runs no round and finds no circuit.
 // It renders the list of arcs of document 02's E2, "Hold another engine's answer to the sheet".
+#![tactic(auto)]
 ghost use Rattle.std.specs.Prelude.{◌≡◌, true, ◌&&◌, ℕ, ◌+◌, ◌*◌, ◌%◌, ◌≤◌, ◌<◌, leb, eqb, length};
 ghost use Rattle.theory.specs.Circuits.{Distinct, departures, FirstSmallest, Above};
 ghost use Rattle.tables.specs.Sheets.{sheet, refusal, timed};
@@ -22,7 +23,7 @@ pub enum ArcsHeld {
 }
 
 // The four numbers of an arc: kind, position, to, from.
-#[derive(Drop)]
+#[derive(Clone, Copy)]
 struct Four {
     kind: u8,
     position: u8,

@@ -1,6 +1,7 @@
 // The climb to the lowest cycle time and the descent to the highest: each step goes to the limit of the circuit that refutes.
 // This crate knows where the search stands, with a circuit that led there; it knows no answer of Ends.
 // It renders the limits of document 01's "Ends", which are the ends.
+#![tactic(auto)]
 pub mod buffers;
 
 ghost use Rattle.std.specs.Prelude.{◌≡◌, length};
@@ -17,7 +18,7 @@ use weights::weigh;
 const ABOVE: u64 = 192000001;
 
 // Where the search stands: a cycle time, and the arc count of the circuit that led there.
-#[derive(Drop)]
+#[derive(Clone, Copy)]
 pub struct Stand {
     pub top: u64,
     pub bottom: u64,

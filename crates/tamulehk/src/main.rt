@@ -1,5 +1,6 @@
 // The report program: a sheet on standard input, its report on standard output.
 // It only reads and writes: the report is crate `report`'s. An unreadable standard input counts as empty.
+#![tactic(auto)]
 use libc::{STDIN_FILENO, STDOUT_FILENO};
 use report::Told;
 

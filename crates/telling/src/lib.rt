@@ -1,6 +1,7 @@
 // From a file's bytes to the text of its report: each answer is asked for in room of the work's own, and handed to its lines.
 // This crate knows which call answers what; it knows no spelling, and not how much of a file is judged.
 // It renders document 01's "The report", and document 02's E1 in it.
+#![tactic(auto)]
 ghost use Rattle.std.specs.Prelude.{◌≡◌, ◌⊎◌, ◌≤◌, length};
 ghost use Rattle.tables.specs.Sheets.{sheet, refusal};
 ghost use Rattle.sheet.specs.File.{sheet_in};

@@ -1,6 +1,7 @@
 // One turn of the rounds, a position in a round: what an arc of its records does to the table and the row of marks, and which turn comes after.
 // This crate knows the tables of times, the marks, and what all rounds over a list of records mean; it walks no list itself.
 // It renders document 01's "Rounds".
+#![tactic(auto)]
 ghost use Rattle.std.specs.Prelude.{◌≡◌, ◌+◌, ◌-◌, ◌*◌, ◌≤◌, ◌<◌, length};
 ghost use Rattle.turns.specs.Rounds.{named, site_of, Able, board, raise, turn_of, Posed, Differs, Filled, Next};
 
@@ -9,7 +10,7 @@ pub const KINDS: u16 = 8;
 
 // Where a position stands: the places of its events and of the next position's, what crossing to that costs, and how many steps a unit of
 // time has.
-#[derive(Drop)]
+#[derive(Clone, Copy)]
 pub struct Site {
     pub here: usize,
     pub next: usize,
@@ -40,7 +41,7 @@ pub fn site_at(g: usize, n: usize, positions: usize, p: u64, q: u64) -> Site
 }
 
 // What the rounds are asked: events and positions, the cycle time p/q, and where the records of each mode begin.
-#[derive(Drop)]
+#[derive(Clone, Copy)]
 pub struct Job {
     pub n: usize,
     pub positions: usize,
@@ -51,7 +52,7 @@ pub struct Job {
 
 // A turn of the walk: one position in one round, and the records of its mode. `left` turns are left, this one among them; `node` is one
 // that the round before raised.
-#[derive(Drop)]
+#[derive(Clone, Copy)]
 pub struct Turn {
     pub left: usize,
     pub round: usize,
