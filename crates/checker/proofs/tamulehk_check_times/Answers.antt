@@ -1,0 +1,10 @@
+-- `checker::tamulehk_check_times` meets its contract: the answer, handed over.
+use Rattle.values.proofs.Handing.{handed}
+use borrow.Author.Rules.{rules}
+use Rattle.checker.proofs.tamulehk_check_times.Goals as goal
+
+pub give-requires : goal.give-requires
+give-requires c = let m = c.judge_times-a.ensures.given in (m.few, m.room)
+
+pub returns : goal.returns
+returns c = handed c.judge_times-a.ensures c.give.ensures

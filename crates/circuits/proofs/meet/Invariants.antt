@@ -1,0 +1,14 @@
+-- The invariant: the way back has come to u, and the nodes that it passed are seen. The measure is how many are not.
+use mathlib.Core.Path.{◌≡◌, refl, ◌∙◌}
+use Prim.Native.Nat.{◌<◌}
+use native.Mathlib.Omega.{arith}
+use lib.ListN.{length, length-set}
+use Rattle.circuits.proofs.Ways.{others, others_less, Passed, passed_none, passed_here, passed_met, passed_more}
+use borrow.Author.Rules.{rules}
+use Rattle.circuits.proofs.meet.Given as goal
+
+abbrev pub invariant-loop-seen : goal.invariant-loop-seen
+invariant-loop-seen l = (length l.seen ≡ length l.initial.seen) × Passed l.row l.n l.positions l.v l.seen l.u
+
+abbrev pub decreases-loop-seen : goal.decreases-loop-seen
+decreases-loop-seen l = others l.seen

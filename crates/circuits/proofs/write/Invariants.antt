@@ -1,0 +1,15 @@
+-- The invariant: the last j arcs are written, and x is the node before them. The measure is the arcs left.
+use mathlib.Core.Path.{◌≡◌, refl, ◌∙◌}
+use Prim.Native.Nat.{◌-◌, ◌*◌, ◌/◌, ◌<◌}
+use native.Mathlib.Omega.{arith}
+use lib.ListN.{length, get_or}
+use Rattle.circuits.proofs.Ways.{sound_here, sound_next}
+use Rattle.circuits.proofs.Writing.{Written, written_none, written_more, written_all}
+use borrow.Author.Rules.{rules}
+use Rattle.circuits.proofs.write.Given as goal
+
+abbrev pub invariant-loop-j : goal.invariant-loop-j
+invariant-loop-j l = (length l.circuit ≡ length l.initial.circuit) × Written l.row l.n l.s l.count l.initial.circuit l.j l.x l.circuit
+
+abbrev pub decreases-loop-j : goal.decreases-loop-j
+decreases-loop-j l = l.count - l.j

@@ -1,0 +1,13 @@
+-- `ends::finish_low` meets its contract: low's circuit goes into the first buffer, then high's, if there is one, into the second.
+use Rattle.ends.proofs.Finishing.{low_fits, low_high, finds}
+use borrow.Author.Rules.{rules}
+use Rattle.ends.proofs.finish_low.Goals as goal
+
+pub copy-requires : goal.copy-requires
+copy-requires c = low_fits _ _ _ _ _ _ c.requires
+
+pub find_high-highest-requires : goal.find_high-highest-requires
+find_high-highest-requires c = low_high _ _ _ _ _ _ c.requires
+
+pub returns : goal.returns
+returns c = finds _ _ _ _ _ _ c.requires _ c.copy.ensures c.find_high-highest.result _ c.find_high-highest.ensures

@@ -1,0 +1,15 @@
+-- `keeping::are_enough` meets its contract: too few are refused before any is read.
+use mathlib.Core.Path.{sym, ap}
+use mathlib.Core.Bool.{Bool, ◌&&◌}
+use lib.ListN.{length, take}
+use borrow.Author.Tests.{le-leb, lt-leb}
+use borrow.Author.Rules.{rules}
+use Rattle.tables.specs.Sheets.{all}
+use Rattle.calls.specs.ProposedTimes.{in_reach}
+use Rattle.keeping.proofs.are_enough.Goals as goal
+
+pub returns-then-times-count : goal.returns-then-times-count
+returns-then-times-count c = let a = c.args in ap (λ (b : Bool). b && all in_reach (take a.count a.times.now)) (sym (lt-leb a.count (length a.times.now) c.if-times-count.true))
+
+pub returns : goal.returns
+returns c = rw (le-leb _ _ c.if-times-count.false) c.are_in_reach.ensures

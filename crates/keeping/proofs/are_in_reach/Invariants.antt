@@ -1,0 +1,21 @@
+-- `keeping::are_in_reach` meets its contract. The invariant: the test of the times that are left is the test of all.
+use Rattle.tables.specs.Sheets.{all}
+use Rattle.calls.specs.ProposedTimes.{in_reach}
+use Rattle.tables.proofs.Laws.{all_stop, all_next, all_end}
+use native.Mathlib.Nat.{sub-zero}
+use mir.Syntax.{w64}
+use mir.ValLaws.{to_z-of_z}
+use mathlib.Core.Path.{◌≡◌, sym, ap, ◌∙◌}
+use Prim.Native.Nat.{ℕ, ◌-◌, ◌≤◌}
+use native.Mathlib.Omega.{arith}
+use borrow.Author.Tests.{not-true, not-false}
+use lib.ListN.{length, take, drop, get_or}
+use lib.IntN.{pos}
+use borrow.Author.Rules.{rules}
+use Rattle.keeping.proofs.are_in_reach.Given as goal
+
+abbrev pub invariant-loop-v : goal.invariant-loop-v
+invariant-loop-v l = (l.v ≤ l.count) × (l.count ≤ length l.times) × (all in_reach (take l.count l.times) ≡ all in_reach (take (l.count - l.v) (drop l.v l.times)))
+
+abbrev pub decreases-loop-v : goal.decreases-loop-v
+decreases-loop-v l = l.count - l.v

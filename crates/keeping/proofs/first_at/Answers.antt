@@ -1,0 +1,63 @@
+-- `keeping::first_at` meets its contract: the part that is lent is the mode's.
+use mathlib.Core.Path.{◌≡◌, sym, ap, ◌∙◌, subst}
+use mathlib.Core.List.{List}
+use Prim.Native.Nat.{ℕ, ◌-◌, ◌*◌, ◌≤◌}
+use native.Mathlib.Omega.{arith}
+use lib.IntN.{ℤ, pos}
+use lib.ListN.{get_or, length, take, drop, length-drop}
+use Rattle.tables.proofs.Laws.{square}
+use Rattle.edges.proofs.Places.{Sizes, sizes, rest}
+use Rattle.keeping.specs.Breaks.{breaks_at, Spreads, First}
+use Rattle.keeping.proofs.Windows.{granted, limits, part, spreads}
+use borrow.Author.Rules.{rules}
+use Rattle.keeping.proofs.first_at.Goals as goal
+
+-- the mode's part lies within the tables
+fit : (c : goal.Start) → let a = c.args in Sizes (get_or a.schedule.now a.g 0) a.line.m a.line.n
+fit c = let a = c.args in let ok = (granted a.line a.tables.now a.schedule.now a.times.now c.requires.0).sheet_ok in
+    sizes (get_or a.schedule.now a.g 0) a.line.m a.line.n ok.size.few_events ok.size.few_modes (ok.modes a.g c.requires.1)
+
+-- and they are long enough
+long : (c : goal.Start) → let a = c.args in a.line.m * (4 * (a.line.n * a.line.n)) ≤ length a.tables.now
+long c = let a = c.args in omega (arith, (granted a.line a.tables.now a.schedule.now a.times.now c.requires.0).sheet_ok.size.long_tables)
+
+first_is : (c : goal.After-wide) → let a = c.args in c.wide.result * (4 * (a.line.n * a.line.n)) ≡ get_or a.schedule.now a.g 0 * (4 * (a.line.n * a.line.n))
+first_is c = let a = c.args in ap (λ (t : ℕ). t * (4 * (a.line.n * a.line.n))) c.wide.ensures
+
+pub overflow_mul-size : goal.overflow_mul-size
+overflow_mul-size c = omega (arith, square c.args.line.n (limits c.args.line c.args.tables.now c.args.schedule.now c.args.times.now c.requires.0 c.args.g c.requires.1).few_events)
+
+pub overflow_mul-size-2 : goal.overflow_mul-size-2
+overflow_mul-size-2 c = omega (arith, square c.args.line.n (limits c.args.line c.args.tables.now c.args.schedule.now c.args.times.now c.requires.0 c.args.g c.requires.1).few_events)
+
+pub bounds-schedule-g : goal.bounds-schedule-g
+bounds-schedule-g c = omega (arith, c.requires.1, (granted c.args.line c.args.tables.now c.args.schedule.now c.args.times.now c.requires.0).sheet_ok.size.long_schedule)
+
+pub overflow_mul-first : goal.overflow_mul-first
+overflow_mul-first c = omega (arith, first_is c, (fit c.before.before.before.before).part, (fit c.before.before.before.before).whole)
+
+pub offset_bounds-tables-first : goal.offset_bounds-tables-first
+offset_bounds-tables-first c = omega (arith, first_is c, (fit c.before.before.before.before).part, (fit c.before.before.before.before).whole)
+
+pub slice_bounds-first_broken-count : goal.slice_bounds-first_broken-count
+slice_bounds-first_broken-count c = omega (arith, first_is c, (fit c.before.before.before.before).part, long c.before.before.before.before)
+
+-- what is lent is the mode's part
+lent : (c : goal.After-wide) → let a = c.args in let from = c.wide.result * (4 * (a.line.n * a.line.n)) in
+    take (length a.tables.now - from) (drop from a.tables.now) ≡ part a.line a.tables.now a.schedule.now a.times.now c.requires.0 a.g
+lent c = let a = c.args in rest _ a.tables.now ∙ ap (λ (k : ℕ). drop k a.tables.now) (first_is c)
+
+pub first_broken-requires : goal.first_broken-requires
+first_broken-requires c = let a = c.args in
+    let k = get_or a.schedule.now a.g 0 * (4 * (a.line.n * a.line.n)) in (
+      limits a.line a.tables.now a.schedule.now a.times.now c.requires.0 a.g c.requires.1,
+      rw (lent c.before) (omega (arith, length-drop k a.tables.now, (fit c.before.before.before.before.before).part, long c.before.before.before.before.before)),
+      subst (λ (l : List ℤ). Spreads l a.line a.g a.times.now) (sym (lent c.before)) (spreads a.line a.tables.now a.schedule.now a.times.now c.requires.0 a.g c.requires.1),
+    )
+
+pub returns : goal.returns
+returns c = let a = c.args in
+    subst (λ (l : List ℤ). First (λ k. breaks_at a.line a.g k (get_or l k (pos 0)) a.times.now) (4 * (a.line.n * a.line.n)) c.first_broken.result) (lent c.before.before) c.first_broken.ensures
+
+-- UNMATCHED slice-bounds-first-broken-start: part-first-broken-start : tie.Need-slice-bounds-first-broken-start part-first-broken-start c = let s = c.before.before.before.before in omega (arith, first_is c, (fit s).part, long s)
+-- UNMATCHED slice-bounds-first-broken-end: part-first-broken-end : tie.Need-slice-bounds-first-broken-end part-first-broken-end c = let s = c.before.before.before.before in omega (arith, first_is c, (fit s).part, long s)

@@ -1,0 +1,27 @@
+-- `keeping::lifted` meets its contract: the sum is the integers', and in reach it is not below zero.
+use mathlib.Core.Path.{◌≡◌, refl}
+use native.Mathlib.Omega.{arith}
+use lib.IntN.{ℤ, pos, ◌+ℤ◌}
+use mir.ValLaws.{to_z-of_z}
+use mir.Syntax.{w64}
+use mir.Val.{SFits}
+use Rattle.keeping.specs.Breaks.{lift}
+use Rattle.keeping.proofs.Reach.{lifts}
+use Rattle.keeping.proofs.lifted.Goals as goal
+
+-- the sum fits, and is the lifted time
+module _ (c : goal.Start) where
+  sum : c.args.time +ℤ pos 382000000000 ≡ pos (lift c.args.time)
+  sum = (lifts c.args.time c.requires).0
+
+  fits : SFits w64 (c.args.time +ℤ pos 382000000000)
+  fits = rw sum (record { sfits = omega (arith, (lifts c.args.time c.requires).1) })
+
+pub overflow_add-result : goal.overflow_add-result
+overflow_add-result c = rw (to_z-of_z w64 c.args.time c.ranges.time) (fits c)
+
+pub overflow_cast-result : goal.overflow_cast-result
+overflow_cast-result c = rw (to_z-of_z w64 c.args.time c.ranges.time, to_z-of_z w64 _ (fits c), sum c) (tt, record { fits = omega (arith, (lifts c.args.time c.requires).1) })
+
+pub returns : goal.returns
+returns c = rw (to_z-of_z w64 c.args.time c.ranges.time, to_z-of_z w64 _ (fits c), sum c) (refl, (lifts c.args.time c.requires).1)

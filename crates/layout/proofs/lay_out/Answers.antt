@@ -1,0 +1,112 @@
+-- The outer invariant: the records of the modes before t are laid out. The inner one: so are those of the places of the mode's part before k,
+-- and k is a place that has a window, or the part's end. The measures are the modes left, and what is left of the part.
+use mathlib.Core.Path.{◌≡◌, refl, ap, ◌∙◌}
+use mathlib.Core.Bool.{false}
+use mathlib.Core.List.{List}
+use Prim.Native.Nat.{ℕ, ◌+◌, ◌-◌, ◌*◌, ◌≤◌, ◌<◌}
+use native.Mathlib.Omega.{arith}
+use native.Mathlib.Nat.{le_antisymm}
+use lib.IntN.{ℤ, pos}
+use lib.ListN.{length, get_or, drop, length-drop}
+use Rattle.numbers.proofs.Signs.{passed}
+use Rattle.tables.proofs.Laws.{square}
+use Rattle.tables.specs.Sheets.{absent}
+use Rattle.edges.specs.Edges.{from_place}
+use Rattle.layout.proofs.Laying.{Filling, fill_none, fill_few, fill_ahead, fill_put, fill_mode, fill_done}
+use Rattle.edges.proofs.Places.{Sizes, sizes, rest}
+use borrow.Author.Rules.{rules}
+use Rattle.layout.proofs.lay_out.Invariants.{Stop}
+use Rattle.layout.proofs.lay_out.Goals as goal
+
+fit : (c : goal.In-loop-t) → Sizes c.loop-t.t c.args.m c.args.n
+fit c = sizes c.loop-t.t c.args.m c.args.n c.requires.1 c.requires.2 c.loop-t-test.true
+
+-- the place where the mode's part starts
+abbrev start : (c : goal.In-loop-t) → ℕ
+start c = c.loop-t.t * (4 * (c.args.n * c.args.n))
+
+-- the part is long enough
+long : (c : goal.In-loop-t) → 4 * (c.args.n * c.args.n) ≤ length (drop (start c) c.args.tables.now)
+long c = omega (arith, length-drop (start c) c.args.tables.now, (fit c).part, c.requires.3)
+
+-- fewer records than places before
+few : (c : goal.In-loop-k) → c.loop-k.w < 4608
+few c =
+    let f = fit c.before.before.before.before in
+    omega (arith, fill_few c.args.tables.now c.args.n c.loop-t.t c.loop-k.k c.loop-k.list c.loop-k.w c.loop-k.invariant.1, c.loop-k-test.true, f.part, f.whole)
+
+pub overflow_mul-size : goal.overflow_mul-size
+overflow_mul-size c = omega (arith, square c.args.n c.requires.1)
+
+pub overflow_mul-size-2 : goal.overflow_mul-size-2
+overflow_mul-size-2 c = omega (arith, square c.args.n c.requires.1)
+
+pub loop-t-init : goal.loop-t-init
+loop-t-init c = (omega arith, fill_none c.args.tables.now c.args.n)
+
+pub overflow_mul-first : goal.overflow_mul-first
+overflow_mul-first c = let f = fit c in omega (arith, f.part, f.whole)
+
+pub offset_bounds-tables-first : goal.offset_bounds-tables-first
+offset_bounds-tables-first c = let f = fit c in omega (arith, f.part, f.whole)
+
+pub slice_bounds-part-count : goal.slice_bounds-part-count
+slice_bounds-part-count c = let f = fit c in omega (arith, f.part, c.requires.3)
+
+pub next_window-k-requires : goal.next_window-k-requires
+next_window-k-requires c = (c.requires.1, omega arith, omega (arith, ap length (rest (start c.before) c.args.tables.now), long c.before))
+
+pub loop-k-init : goal.loop-k-init
+loop-k-init c = let a = c.args in
+    let h = rw (rest (start c.before.before) a.tables.now) at c.next_window-k.ensures in
+    ((h.within, h.window), fill_ahead a.tables.now a.n c.loop-t.t 0 _ c.loop-t.list c.loop-t.w c.loop-t.invariant.1 h)
+
+pub offset_bounds-part-k : goal.offset_bounds-part-k
+offset_bounds-part-k c = omega (arith, square c.args.n c.requires.1, c.loop-k-test.true)
+
+pub bounds-part-k : goal.bounds-part-k
+bounds-part-k c = omega (arith, ap length (rest (start c.before.before.before.before) c.args.tables.now), long c.before.before.before.before, c.loop-k-test.true)
+
+pub from_place-requires : goal.from_place-requires
+from_place-requires c = (c.requires.0, c.requires.1, c.loop-k-test.true)
+
+pub offset_bounds-list-w : goal.offset_bounds-list-w
+offset_bounds-list-w c = omega (arith, few c.before.before)
+
+pub bounds-list-w : goal.bounds-list-w
+bounds-list-w c = omega (arith, few c.before.before)
+
+pub overflow_add-w : goal.overflow_add-w
+overflow_add-w c = omega (arith, few c.before.before)
+
+pub overflow_add-k : goal.overflow_add-k
+overflow_add-k c = omega (arith, square c.args.n c.requires.1, c.loop-k-test.true)
+
+pub next_window-k-requires-in-loop-k : goal.next_window-k-requires-in-loop-k
+next_window-k-requires-in-loop-k c = (c.requires.1, omega (arith, c.loop-k-test.true), omega (arith, ap length (rest (start c.before.before.before.before.before.before) c.args.tables.now), long c.before.before.before.before.before.before))
+
+pub loop-k-smaller : goal.loop-k-smaller
+loop-k-smaller c = omega (arith, c.next_window-k-in-loop-k.ensures.from, c.loop-k-test.true)
+
+pub loop-k-preserved : goal.loop-k-preserved
+loop-k-preserved c = let a = c.args in
+    let T = a.tables.now in
+    let t = c.loop-t.t in
+    let v = get_or (drop (start c.before.before.before.before.before.before.before) T) c.loop-k.k (pos 0) in
+    let h = rw (rest (start c.before.before.before.before.before.before.before) T) at c.next_window-k-in-loop-k.ensures in
+    let there = c.loop-k.invariant.0.1 c.loop-k-test.true in
+    let is = passed _ c.from_place-arg-1.given ∙ ap (λ (x : List ℤ). get_or x c.loop-k.k (pos 0)) (rest (start c.before.before.before.before.before.before.before) T) in
+    let made = c.from_place.ensures ∙ ap (from_place a.n c.loop-k.k) is in
+    let put = fill_put T a.n t c.loop-k.k c.loop-k.list c.loop-k.w v c.from_place.result c.loop-k.invariant.1 refl there made (few c.before.before.before) in
+    ((h.within, h.window), fill_ahead T a.n t (c.loop-k.k + 1) _ _ _ put h)
+
+pub loop-t-preserved : goal.loop-t-preserved
+loop-t-preserved c = let a = c.args in
+    (omega (arith, c.loop-t-test.true), fill_mode a.tables.now a.n c.loop-t.t c.loop-k.k c.loop-k.list c.loop-k.w c.loop-k.invariant.1 (le_antisymm c.loop-k.invariant.0.0 c.loop-k-test.false))
+
+pub returns : goal.returns
+returns c = let a = c.args in
+    fill_done a.tables.now a.n c.loop-t.t a.m c.loop-t.list c.loop-t.w c.loop-t.invariant.1 (le_antisymm c.loop-t.invariant.0 c.loop-t-test.false)
+
+-- UNMATCHED slice-bounds-part-start: part-part-start : tie.Need-slice-bounds-part-start invariant-loop2 decreases-loop2 invariant-loop decreases-loop part-part-start c = let f = fit c in omega (arith, f.part, c.before.before.requires.3)
+-- UNMATCHED slice-bounds-part-end: part-part-end : tie.Need-slice-bounds-part-end invariant-loop2 decreases-loop2 invariant-loop decreases-loop part-part-end c = let f = fit c in omega (arith, f.part, c.before.before.requires.3)

@@ -1,0 +1,25 @@
+-- `reader::read_schedule` meets its contract. The invariant: what ends the positions that are left ends them all.
+use borrow.Author.Tests.{ltb-true}
+use Rattle.sheet.specs.File.{tested, schedule_at}
+use Rattle.records.specs.Steps.{Walks, between}
+use Rattle.records.specs.declared.Ending.{Ending}
+use Rattle.sheet.proofs.Numbers.{tested_same, tested_value}
+use Rattle.records.proofs.Ranges.{below}
+use Rattle.reader.proofs.Schedules.{store_modes, position_next, position_stop, position_done}
+use mathlib.Core.Path.{◌≡◌, refl, sym, subst, ◌∙◌}
+use mathlib.Core.List.{List}
+use Prim.Native.Nat.{ℕ, ◌+◌, ◌-◌, ◌≤◌}
+use native.Mathlib.Omega.{arith}
+use native.Mathlib.Nat.{sub-zero}
+use lib.Dec.{ltb}
+use lib.ListN.{length}
+use Rattle.numbers.specs.Groups.{number_at}
+use Rattle.numbers.specs.declared.Number.TheVariants.{Value}
+use borrow.Author.Rules.{rules}
+use Rattle.reader.proofs.read_schedule.Given as goal
+
+abbrev pub invariant-loop-h : goal.invariant-loop-h
+invariant-loop-h l = (l.h ≤ l.positions) × (length l.schedule ≡ length l.initial.schedule) × ((r : Ending) (now : List ℕ) → Walks (store_modes l.h) (schedule_at l.file l.m (l.positions - l.h) l.p) l.schedule r now → Walks (store_modes 0) (schedule_at l.file l.m l.positions l.at) l.initial.schedule r now)
+
+abbrev pub decreases-loop-h : goal.decreases-loop-h
+decreases-loop-h l = l.positions - l.h

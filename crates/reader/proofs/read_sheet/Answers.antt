@@ -1,0 +1,57 @@
+-- `reader::read_sheet` meets its contract. The first walk says what the file is; the second, over the same file, fills the buffers.
+use Rattle.sheet.specs.File.{sheet_in}
+use Rattle.tables.specs.Sheets.{places}
+use Rattle.tables.proofs.Laws.{square, few_places}
+use Rattle.reader.specs.declared.Read.TheVariants as read
+use Rattle.reader.proofs.Filling.{Filled, filled, unfilled}
+use Rattle.sheet.proofs.Sheets.{sheeted}
+use Rattle.reader.proofs.Outcomes.{reads_refused, reads_short, reads_done}
+use mathlib.Core.Path.{◌≡◌, sym, ap, subst, ◌∙◌}
+use mathlib.Core.Bool.{◌&&◌}
+use Prim.Native.Nat.{ℕ, ◌*◌, ◌≤◌}
+use native.Mathlib.Omega.{arith}
+use lib.Dec.{leb}
+use lib.ListN.{length}
+use borrow.Author.Tests.{not-true, not-false}
+use borrow.Author.Rules.{rules}
+use Rattle.reader.proofs.read_sheet.Goals as goal
+
+-- the sheet that the first walk found
+found : (c : goal.In-Done-2) → Filled (sheet_in c.args.file.now) c.in-Done.n c.in-Done.m c.in-Done.positions
+found c = filled _ _ _ _ _ _ _ _ _ c.in-Done.is c.read_into-judged.ensures
+
+-- its size against the buffers', as the code has it
+room : (c : goal.In-Done-2) → let f = found c in let a = c.args in
+    (leb (places f.s.n f.s.m) (length a.tables.now) && leb f.s.positions (length a.schedule.now))
+    ≡ (leb (places c.in-Done.n c.in-Done.m) (length a.tables.now) && leb c.in-Done.positions (length a.schedule.now))
+room c = let f = found c in rw (f.n_is, f.m_is, f.positions_is)
+
+small : (c : goal.In-Done-2) → let n = c.in-Done.n in let m = c.in-Done.m in (n * n ≤ 144) × (m ≤ 8) × (4 * m * (n * n) ≤ 4608)
+small c =
+    let f = found c in
+    let k = (sheeted _ f.s f.next f.is).count in
+    let n : c.in-Done.n ≤ 12 = subst (λ (x : ℕ). x ≤ 12) f.n_is k.few_events in
+    let m : c.in-Done.m ≤ 8 = subst (λ (x : ℕ). x ≤ 8) f.m_is k.few_modes in
+    (square c.in-Done.n n, m, few_places c.in-Done.n c.in-Done.m n m)
+
+pub returns-in_default : goal.returns-in_default
+returns-in_default c = let a = c.args in
+    reads_refused a.file.now a.tables.now a.schedule.now _ _ c.in_default.is (unfilled _ _ _ _ _ _ _ c.in_default.is c.read_into-judged.ensures)
+
+pub overflow_mul-places : goal.overflow_mul-places
+overflow_mul-places c = let z = small c.before in omega (arith, z.0, z.1, z.2)
+
+pub overflow_mul-places-2 : goal.overflow_mul-places-2
+overflow_mul-places-2 c = let z = small c.before in omega (arith, z.0, z.1, z.2)
+
+pub overflow_mul-places-3 : goal.overflow_mul-places-3
+overflow_mul-places-3 c = let z = small c.before in omega (arith, z.0, z.1, z.2)
+
+pub returns-then-not-is_roomy : goal.returns-then-not-is_roomy
+returns-then-not-is_roomy c = let f = found c.before.before.before.before in let a = c.args in
+    reads_short a.file.now a.tables.now a.schedule.now f.s f.next f.is _ (ap read.Refused c.bad.ensures) (room c.before.before.before.before ∙ sym c.is_roomy.ensures ∙ not-true _ c.if-not-is_roomy.true)
+
+pub returns : goal.returns
+returns c = let f = found c.before.before.before.before.before.before.before.before.before in
+    let a = c.args in
+    reads_done a.file.now a.tables.now a.schedule.now f.s f.next f.is _ _ _ (room c.before.before.before.before.before.before.before.before.before ∙ sym c.is_roomy.ensures ∙ not-false _ c.if-not-is_roomy.false) c.read_into.ensures

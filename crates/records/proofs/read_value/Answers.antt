@@ -1,0 +1,60 @@
+-- `records::read_value` meets its contract. The value's limit is tested by its code, 2,000,000 for 1,000,000; then the place.
+use mathlib.Core.Path.{◌≡◌, sym, ap, ◌∙◌}
+use mathlib.Core.Bool.{true, false}
+use Prim.Native.Nat.{ℕ, ◌≤◌, ◌<◌}
+use native.Mathlib.Omega.{arith}
+use borrow.Author.Tests.{le-leb, lt-leb}
+use lib.IntN.{ℤ}
+use Rattle.numbers.specs.Groups.{bad, number_at}
+use Rattle.numbers.specs.Signs.{decoded}
+use Rattle.numbers.specs.declared.Number.TheVariants.{Value}
+use Rattle.tables.specs.Sheets.{in_limit}
+use Rattle.sheet.specs.File.{got, refused, placed, value_at, rising}
+use Rattle.sheet.proofs.Numbers.{after_value, after_refused, tested_refused, tested_yes, tested_no}
+use Rattle.records.proofs.Ranges.{limits, up_to, refused_is}
+use borrow.Author.Rules.{rules}
+use Rattle.records.proofs.read_value.Goals as goal
+
+-- the limits as the file has them
+in-limit : (u : ℕ) → u ≤ 2000000 → in_limit (decoded u) ≡ true
+in-limit u h = sym (limits u) ∙ up_to u 2000000 ∙ le-leb u 2000000 h
+
+past-limit : (u : ℕ) → 2000000 < u → in_limit (decoded u) ≡ false
+past-limit u h = sym (limits u) ∙ up_to u 2000000 ∙ lt-leb u 2000000 h
+
+-- the two ways of a record whose numbers are right
+module _ (start low p : ℕ) (v : ℤ) (next : ℕ) where
+  rising-yes : low ≤ p → rising start low p v next ≡ got (placed p v) next
+  unfolding rising
+  rising-yes h = rw (le-leb low p h)
+
+  rising-no : p < low → rising start low p v next ≡ refused (bad 7 start)
+  unfolding rising
+  rising-no h = rw (lt-leb low p h)
+
+-- the number as it was read, and what is left where its limit is kept
+code_at : (c : goal.In-Value) → number_at c.args.file.now c.args.at ≡ Value c.in-Value.code c.in-Value.fourth c.in-Value.next
+code_at c = sym c.number_at-read.ensures ∙ c.in-Value.is
+
+left : (c : goal.Else-code-gt-MOST_CODE) → let a = c.args in
+    value_at a.file.now a.start a.low a.place a.at ≡ rising a.start a.low a.place (decoded c.in-Value.code) c.in-Value.next
+unfolding value_at
+left c = after_value _ _ _ _ (tested_yes (λ u. in_limit (decoded u)) 6 _ _ _ (code_at c.before) (in-limit c.in-Value.code c.if-code-gt-MOST_CODE.false))
+
+pub returns-in_default : goal.returns-in_default
+unfolding value_at
+returns-in_default c = ap refused (refused_is _ _ _ c.refusal.ensures c.in_default.is)
+    ∙ sym (after_refused _ _ _ (tested_refused (λ u. in_limit (decoded u)) 6 _ _ (sym c.number_at-read.ensures ∙ c.in_default.is)))
+
+pub returns-then-code-gt-MOST_CODE : goal.returns-then-code-gt-MOST_CODE
+unfolding value_at
+returns-then-code-gt-MOST_CODE c = rw c.bad.ensures (sym (after_refused _ _ _ (tested_no (λ u. in_limit (decoded u)) 6 _ _ _ _ (code_at c.before.before) (past-limit c.in-Value.code c.if-code-gt-MOST_CODE.true))))
+
+pub returns-then-place-low : goal.returns-then-place-low
+returns-then-place-low c = rw c.bad-then-place-low.ensures (sym (left c.before.before ∙ rising-no _ _ _ _ _ c.if-place-low.true))
+
+pub overflow_cast-result : goal.overflow_cast-result
+overflow_cast-result c = omega (arith, c.if-code-gt-MOST_CODE.false)
+
+pub returns : goal.returns
+returns c = sym (left c.before ∙ rising-yes _ _ _ _ _ c.if-place-low.false)

@@ -1,0 +1,13 @@
+-- `search::descend` meets its contract: it starts above every limit.
+use Rattle.search.proofs.Falling.{overhead_hangs, fall_asks, fall_next, fall_works}
+use borrow.Author.Rules.{rules}
+use Rattle.search.proofs.descend.Goals as goal
+
+pub descend_by-next-requires : goal.descend_by-next-requires
+descend_by-next-requires c = fall_asks _ _ _ _ (overhead_hangs _ _ _ _ c.requires) _ _ c.judge_at.ensures _ _ c.in-Above.is
+
+pub descend_from-requires : goal.descend_from-requires
+descend_from-requires c = (fall_next _ _ _ _ (overhead_hangs _ _ _ _ c.requires) _ _ c.judge_at.ensures _ _ c.in-Above.is _ _ c.descend_by-next.ensures).0
+
+pub returns-in-Works : goal.returns-in-Works
+returns-in-Works c = (fall_works _ _ _ _ c.judge_at.ensures c.in-Works.is).0

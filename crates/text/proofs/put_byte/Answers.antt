@@ -1,0 +1,11 @@
+-- `text::put_byte` meets its contract: past the end of the buffer `set` does nothing.
+use mathlib.Core.Path.{refl, sym}
+use lib.Seq.{set_out}
+use borrow.Author.Rules.{rules}
+use Rattle.text.proofs.put_byte.Goals as goal
+
+pub returns-then-at-out : goal.returns-then-at-out
+returns-then-at-out c = record { next_is = refl; out_is = refl }
+
+pub returns : goal.returns
+returns c = record { next_is = refl; out_is = sym (set_out _ _ _ c.if-at-out.false) }

@@ -1,0 +1,19 @@
+-- `writer::write_windows` meets its contract. The invariant: writing the kinds that are left gives what writing all gives.
+use mathlib.Core.Path.{◌≡◌, refl, ap, ◌∙◌}
+use Prim.Native.Nat.{ℕ, ◌+◌, ◌-◌, ◌*◌, ◌≤◌}
+use native.Mathlib.Omega.{arith}
+use native.Mathlib.Nat.{sub-zero, suc-mul, mul-le-mul_right}
+use lib.ListN.{length, take, drop, length-drop}
+use lib.Seq.{length-take-le}
+use Rattle.tables.proofs.Laws.{square}
+use Rattle.sheet.specs.Written.{placed_of, records}
+use Rattle.writer.specs.Steps.{run}
+use Rattle.writer.proofs.Rows.{left, places_short, kinds_next, kinds_done}
+use borrow.Author.Rules.{rules}
+use Rattle.writer.proofs.write_windows.Given as goal
+
+abbrev pub invariant-loop-kind : goal.invariant-loop-kind
+invariant-loop-kind l = (l.kind ≤ 4) × (length l.out ≡ length l.initial.out) × (l.p ≤ l.at + 2304 * l.kind) × (run l.out l.p (records l.n (left l.part (4 * (l.n * l.n)) (l.kind * (l.n * l.n)))) ≡ run l.initial.out l.at (records l.n (placed_of 0 (take (4 * (l.n * l.n)) l.part))))
+
+abbrev pub decreases-loop-kind : goal.decreases-loop-kind
+decreases-loop-kind l = 4 - l.kind
