@@ -28,9 +28,9 @@ pub record Cause (arcs : List Arc) (p q : ℕ) (t : ℕ → ℕ) (v n : ℕ) : T
 
 module _ (p q : ℕ) (t : ℕ → ℕ) where
   -- each arc's demand is met
-  most_meets : {arcs : List Arc} {a : Arc} → a ∈ arcs → demand p q t a ≤ most arcs p q t a.arrival
+  most_meets : {a : Arc} {arcs : List Arc} → a ∈ arcs → demand p q t a ≤ most arcs p q t a.arrival
   unfolding most
-  most_meets {arcs} {a} (Memᴰ.head {x = b} {xs = rest} e) =
+  most_meets {a} {arcs} (Memᴰ.head {x = b} {xs = rest} e) =
       rw (← e) (omega (arith, only_yes (ℕ_discrete a.arrival a.arrival) (demand p q t a) refl))
   most_meets (Memᴰ.tail m) = omega (arith, most_meets m)
 

@@ -13,40 +13,51 @@ use Rattle.ask.proofs.Deciding.{outcome}
 use borrow.Author.Rules.{rules}
 use Rattle.ask.proofs.ask.Goals as goal
 
-abbrev S : goal.Start → Sheet
-S c = let a = c.args in sheet a.n a.m a.positions a.tables.now a.schedule.now
-
--- the tests that are passed
-clean : (c : goal.Else-refusal-ne0) → 0 ≡ refusal (S c.before.before.before.before.before)
-clean c = sym c.if-refusal-ne0.false ∙ c.judge-refusal.ensures
-
-few : (c : goal.Else-refusal-ne0) → c.args.positions * c.args.n ≤ 192
-few c = nodes_few (S c.before.before.before.before.before) (accepted (S c.before.before.before.before.before) (sym (clean c)))
-
-in_time : (c : goal.Else-not-is_timed) → timed c.args.p c.args.q ≡ true
-in_time c = sym c.is_timed.ensures ∙ not-false _ c.if-not-is_timed.false
-
-none : (c : goal.Else-not-is_roomy) → ask_refusal (S c.before.before.before.before.before.before.before.before.before) c.args.p c.args.q c.args.plan.now c.args.circuit.now ≡ 0
-none c = refused_none (S c.before.before.before.before.before.before.before.before.before) c.args.p c.args.q c.args.plan.now c.args.circuit.now (clean c.before.before.before.before) (in_time c.before.before) (sym c.is_roomy.ensures ∙ not-false _ c.if-not-is_roomy.false)
-
 pub returns-then-refusal-ne0 : goal.returns-then-refusal-ne0
-returns-then-refusal-ne0 c = refused c.judge-refusal.result refl (refused_sheet (S c.before.before.before.before.before) c.args.p c.args.q c.args.plan.now c.args.circuit.now c.judge-refusal.result c.judge-refusal.ensures c.if-refusal-ne0.true) c.if-refusal-ne0.true refl refl
+returns-then-refusal-ne0 c =
+    let S : Sheet = let a = c.args in sheet a.n a.m a.positions a.tables.now a.schedule.now in
+    refused c.judge-refusal.result refl (refused_sheet S c.args.p c.args.q c.args.plan.now c.args.circuit.now c.judge-refusal.result c.judge-refusal.ensures c.if-refusal-ne0.true) c.if-refusal-ne0.true refl refl
 
 pub returns-then-not-is_timed : goal.returns-then-not-is_timed
-returns-then-not-is_timed c = refused 10 refl (refused_10 (S c.before.before.before.before.before.before.before) c.args.p c.args.q c.args.plan.now c.args.circuit.now (clean c.before.before) (sym c.is_timed.ensures ∙ not-true _ c.if-not-is_timed.true)) (λ e. omega arith) refl refl
+returns-then-not-is_timed c =
+    let S : Sheet = let a = c.args in sheet a.n a.m a.positions a.tables.now a.schedule.now in
+    let clean : 0 ≡ refusal S = sym c.if-refusal-ne0.false ∙ c.judge-refusal.ensures in
+    refused 10 refl (refused_10 S c.args.p c.args.q c.args.plan.now c.args.circuit.now clean (sym c.is_timed.ensures ∙ c.if-not-is_timed.true)) (λ e. omega arith) refl refl
 
 pub overflow_mul-nodes : goal.overflow_mul-nodes
-overflow_mul-nodes c = omega (arith, few c.before.before)
+overflow_mul-nodes c =
+    let S : Sheet = let a = c.args in sheet a.n a.m a.positions a.tables.now a.schedule.now in
+    let clean : 0 ≡ refusal S = sym c.if-refusal-ne0.false ∙ c.judge-refusal.ensures in
+    let few : c.args.positions * c.args.n ≤ 192 = nodes_few S (accepted S (sym clean)) in
+    omega (arith, few)
 
 pub overflow_mul-nodes-2 : goal.overflow_mul-nodes-2
-overflow_mul-nodes-2 c = omega (arith, few c.before.before)
+overflow_mul-nodes-2 c =
+    let S : Sheet = let a = c.args in sheet a.n a.m a.positions a.tables.now a.schedule.now in
+    let clean : 0 ≡ refusal S = sym c.if-refusal-ne0.false ∙ c.judge-refusal.ensures in
+    let few : c.args.positions * c.args.n ≤ 192 = nodes_few S (accepted S (sym clean)) in
+    omega (arith, few)
 
 pub returns-then-not-is_roomy : goal.returns-then-not-is_roomy
-returns-then-not-is_roomy c = refused 9 refl (refused_9 (S c.before.before.before.before.before.before.before.before.before) c.args.p c.args.q c.args.plan.now c.args.circuit.now (clean c.before.before.before.before) (in_time c.before.before) (sym c.is_roomy.ensures ∙ not-true _ c.if-not-is_roomy.true)) (λ e. omega arith) refl refl
+returns-then-not-is_roomy c =
+    let S : Sheet = let a = c.args in sheet a.n a.m a.positions a.tables.now a.schedule.now in
+    let clean : 0 ≡ refusal S = sym c.if-refusal-ne0.false ∙ c.judge-refusal.ensures in
+    let in_time : timed c.args.p c.args.q ≡ true = sym c.is_timed.ensures ∙ c.if-not-is_timed.false in
+    refused 9 refl (refused_9 S c.args.p c.args.q c.args.plan.now c.args.circuit.now clean in_time (sym c.is_roomy.ensures ∙ c.if-not-is_roomy.true)) (λ e. omega arith) refl refl
 
 pub decide-requires : goal.decide-requires
-decide-requires c = none c.before.before
+decide-requires c =
+    let S : Sheet = let a = c.args in sheet a.n a.m a.positions a.tables.now a.schedule.now in
+    let clean : 0 ≡ refusal S = sym c.if-refusal-ne0.false ∙ c.judge-refusal.ensures in
+    let in_time : timed c.args.p c.args.q ≡ true = sym c.is_timed.ensures ∙ c.if-not-is_timed.false in
+    let none : ask_refusal S c.args.p c.args.q c.args.plan.now c.args.circuit.now ≡ 0 = refused_none S c.args.p c.args.q c.args.plan.now c.args.circuit.now clean in_time (sym c.is_roomy.ensures ∙ c.if-not-is_roomy.false) in
+    none
 
 pub returns : goal.returns
-returns c = let a = c.args in
-    outcome (S c.before.before.before.before.before.before.before.before.before.before.before.before.before.before.before.before) a.p a.q a.plan.now a.circuit.now (none c.before.before.before.before.before.before.before) c.decide.result c.decide.new.1.1.1.1.1.1.1.0 c.decide.new.1.1.1.1.1.1.1.1.0 c.decide.ensures
+returns c =
+    let S : Sheet = let a = c.args in sheet a.n a.m a.positions a.tables.now a.schedule.now in
+    let clean : 0 ≡ refusal S = sym c.if-refusal-ne0.false ∙ c.judge-refusal.ensures in
+    let in_time : timed c.args.p c.args.q ≡ true = sym c.is_timed.ensures ∙ c.if-not-is_timed.false in
+    let none : ask_refusal S c.args.p c.args.q c.args.plan.now c.args.circuit.now ≡ 0 = refused_none S c.args.p c.args.q c.args.plan.now c.args.circuit.now clean in_time (sym c.is_roomy.ensures ∙ c.if-not-is_roomy.false) in
+    let a = c.args in
+    outcome S a.p a.q a.plan.now a.circuit.now none c.decide.result c.decide.new.1.1.1.1.1.1.1.0 c.decide.new.1.1.1.1.1.1.1.1.0 c.decide.ensures

@@ -9,9 +9,12 @@ use Rattle.refuting.specs.Answers.{answer_arcs}
 use borrow.Author.Rules.{rules}
 use Rattle.checker.proofs.judge_arcs.Goals as goal
 
+-- FIXME
 -- the sheet is in the first places
-leaves : (c : goal.In-Done) → Leaves c.args.file.now c.args.tables.now c.args.schedule.now c.requires.0 c.requires.1 c.in-Done.n c.in-Done.m c.in-Done.positions c.read_sheet-read.new.1.0 c.read_sheet-read.new.1.1.0
-leaves c = read_leaves _ _ _ _ _ c.read_sheet-read.result _ _ _ _ _ c.in-Done.is c.read_sheet-read.ensures
+leaves : (c : goal.In-Done) → let g = c.before.read2.given.0 in let r = c.before.before.before.before.before.before in let s = r.before.before.before.before.before.before in
+    Leaves s.args.file.now s.args.tables.now s.args.schedule.now s.requires.0 s.requires.1 g.0 g.1.0 g.1.1.0 r.read-sheet.new.1.0 r.read-sheet.new.1.1.0
+leaves c = let r = c.before.before.before.before.before.before in
+    read_leaves _ _ _ _ _ r.read-sheet.result _ _ _ _ _ c.before.read2.given.1 r.read-sheet.ensures
 
 pub overflow_mul-places : goal.overflow_mul-places
 overflow_mul-places c = omega (arith, (leaves_sizes (leaves c)).few_modes)

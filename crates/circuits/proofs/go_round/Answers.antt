@@ -8,14 +8,6 @@ use Rattle.circuits.proofs.Ways.{sound_here, Going, going_none, going_few, going
 use borrow.Author.Rules.{rules}
 use Rattle.circuits.proofs.go_round.Goals as goal
 
--- where the node u is not met again there are steps left
-few : (c : goal.In-loop-x) → let a = c.args in c.loop-x.count < a.positions * a.n
-few c = let a = c.args in
-    omega (arith, c.requires.1.1, going_few (before a.row.now) a.u c.loop-x.least c.loop-x.count c.loop-x.x c.loop-x.invariant c.requires.1.0 c.requires.1.2 c.loop-x-test.true)
-
-in_row : (c : goal.At-loop-x) → let a = c.args in c.loop-x.x < a.positions * a.n
-in_row c = let a = c.args in sound_here a.row.now a.n a.positions a.u c.requires.0 c.loop-x.count c.loop-x.x c.loop-x.invariant.there
-
 pub offset_bounds-row-u : goal.offset_bounds-row-u
 offset_bounds-row-u c = let a = c.args in omega (arith, c.requires.0.rowed.few, sound_here a.row.now a.n a.positions a.u c.requires.0 0 a.u (back_none (before a.row.now) a.u))
 
@@ -26,16 +18,26 @@ pub loop-x-init : goal.loop-x-init
 loop-x-init c = let a = c.args in going_none (before a.row.now) a.u c.departure-x.result c.departure-x.ensures
 
 pub overflow_add-count : goal.overflow_add-count
-overflow_add-count c = omega (arith, c.requires.0.rowed.few, few c.before)
+overflow_add-count c =
+    let few : c.loop-x.count < c.args.positions * c.args.n = let a = c.args in
+    omega (arith, c.requires.1.1, going_few (before a.row.now) a.u c.loop-x.least c.loop-x.count c.loop-x.x c.loop-x.invariant c.requires.1.0 c.requires.1.2 c.loop-x-test.true) in
+    omega (arith, c.requires.0.rowed.few, few)
 
 pub offset_bounds-row-x : goal.offset_bounds-row-x
-offset_bounds-row-x c = omega (arith, c.requires.0.rowed.few, in_row c.before.before)
+offset_bounds-row-x c =
+    let in_row : c.loop-x.x < c.args.positions * c.args.n = let a = c.args in sound_here a.row.now a.n a.positions a.u c.requires.0 c.loop-x.count c.loop-x.x c.loop-x.invariant.there in
+    omega (arith, c.requires.0.rowed.few, in_row)
 
 pub bounds-row-x : goal.bounds-row-x
-bounds-row-x c = omega (arith, c.requires.0.rowed.long, in_row c.before.before.before)
+bounds-row-x c =
+    let in_row : c.loop-x.x < c.args.positions * c.args.n = let a = c.args in sound_here a.row.now a.n a.positions a.u c.requires.0 c.loop-x.count c.loop-x.x c.loop-x.invariant.there in
+    omega (arith, c.requires.0.rowed.long, in_row)
 
 pub loop-x-smaller : goal.loop-x-smaller
-loop-x-smaller c = omega (arith, few c.before.before.before)
+loop-x-smaller c =
+    let few : c.loop-x.count < c.args.positions * c.args.n = let a = c.args in
+    omega (arith, c.requires.1.1, going_few (before a.row.now) a.u c.loop-x.least c.loop-x.count c.loop-x.x c.loop-x.invariant c.requires.1.0 c.requires.1.2 c.loop-x-test.true) in
+    omega (arith, few)
 
 pub loop-x-preserved : goal.loop-x-preserved
 loop-x-preserved c = let a = c.args in

@@ -7,18 +7,20 @@ use Rattle.circuits.proofs.Ways.{others, others_less, Passed, passed_none, passe
 use borrow.Author.Rules.{rules}
 use Rattle.circuits.proofs.meet.Goals as goal
 
-here : (c : goal.At-loop-seen) → c.loop-seen.u < length c.loop-seen.seen
-here c = let a = c.args in
-    omega (arith, c.loop-seen.invariant.0, c.requires.1.room, passed_here a.row.now a.n a.positions a.v c.requires.0 c.loop-seen.seen c.loop-seen.u c.loop-seen.invariant.1)
-
 pub loop-seen-init : goal.loop-seen-init
 loop-seen-init c = let a = c.args in (refl, passed_none a.row.now a.n a.positions a.v a.seen.now c.requires.1)
 
 pub bounds-seen-u : goal.bounds-seen-u
-bounds-seen-u c = here c.before
+bounds-seen-u c =
+    let here : c.loop-seen.u < length c.loop-seen.seen = let a = c.args in
+    omega (arith, c.loop-seen.invariant.0, c.requires.1.room, passed_here a.row.now a.n a.positions a.v c.requires.0 c.loop-seen.seen c.loop-seen.u c.loop-seen.invariant.1) in
+    here
 
 pub bounds-seen-u-in-loop-seen : goal.bounds-seen-u-in-loop-seen
-bounds-seen-u-in-loop-seen c = here c.before.before
+bounds-seen-u-in-loop-seen c =
+    let here : c.loop-seen.u < length c.loop-seen.seen = let a = c.args in
+    omega (arith, c.loop-seen.invariant.0, c.requires.1.room, passed_here a.row.now a.n a.positions a.v c.requires.0 c.loop-seen.seen c.loop-seen.u c.loop-seen.invariant.1) in
+    here
 
 pub offset_bounds-row-u : goal.offset_bounds-row-u
 offset_bounds-row-u c = let a = c.args in
@@ -29,12 +31,18 @@ bounds-row-u c = let a = c.args in
     omega (arith, c.requires.0.rowed.long, passed_here a.row.now a.n a.positions a.v c.requires.0 c.loop-seen.seen c.loop-seen.u c.loop-seen.invariant.1)
 
 pub loop-seen-smaller : goal.loop-seen-smaller
-loop-seen-smaller c = others_less c.loop-seen.seen c.loop-seen.u (here c.before.before.before.before) c.loop-seen-test.true
+loop-seen-smaller c =
+    let here : c.loop-seen.u < length c.loop-seen.seen = let a = c.args in
+    omega (arith, c.loop-seen.invariant.0, c.requires.1.room, passed_here a.row.now a.n a.positions a.v c.requires.0 c.loop-seen.seen c.loop-seen.u c.loop-seen.invariant.1) in
+    others_less c.loop-seen.seen c.loop-seen.u here c.loop-seen-test.true
 
 pub loop-seen-preserved : goal.loop-seen-preserved
-loop-seen-preserved c = let a = c.args in (
+loop-seen-preserved c =
+    let here : c.loop-seen.u < length c.loop-seen.seen = let a = c.args in
+    omega (arith, c.loop-seen.invariant.0, c.requires.1.room, passed_here a.row.now a.n a.positions a.v c.requires.0 c.loop-seen.seen c.loop-seen.u c.loop-seen.invariant.1) in
+    let a = c.args in (
   length-set c.loop-seen.seen c.loop-seen.u 1 ∙ c.loop-seen.invariant.0,
-  passed_more a.row.now a.n a.positions a.v c.requires.0 c.loop-seen.seen c.loop-seen.u c.loop-seen.invariant.1 c.loop-seen-test.true (here c.before.before.before.before) c.departure-u.result c.departure-u.ensures,
+  passed_more a.row.now a.n a.positions a.v c.requires.0 c.loop-seen.seen c.loop-seen.u c.loop-seen.invariant.1 c.loop-seen-test.true here c.departure-u.result c.departure-u.ensures,
 )
 
 pub returns : goal.returns

@@ -8,20 +8,18 @@ use Rattle.circuits.proofs.Writing.{Written, written_none, written_more, written
 use borrow.Author.Rules.{rules}
 use Rattle.circuits.proofs.write.Goals as goal
 
-in_row : (c : goal.At-loop-j) → let a = c.args in c.loop-j.x < a.positions * a.n
-in_row c = let a = c.args in sound_here a.row.now a.n a.positions a.s c.requires.0 c.loop-j.j c.loop-j.x c.loop-j.invariant.1.there
-
-next-in-row : (c : goal.At-loop-j) → let a = c.args in get_or a.row.now c.loop-j.x 0 / 8 < a.positions * a.n
-next-in-row c = let a = c.args in sound_next a.row.now a.n a.positions a.s c.requires.0 c.loop-j.j c.loop-j.x c.loop-j.invariant.1.there
-
 pub loop-j-init : goal.loop-j-init
 loop-j-init c = let a = c.args in (refl, written_none a.row.now a.n a.s a.count a.circuit.now)
 
 pub offset_bounds-row-x : goal.offset_bounds-row-x
-offset_bounds-row-x c = omega (arith, c.requires.0.rowed.few, in_row c.before)
+offset_bounds-row-x c =
+    let in_row : c.loop-j.x < c.args.positions * c.args.n = let a = c.args in sound_here a.row.now a.n a.positions a.s c.requires.0 c.loop-j.j c.loop-j.x c.loop-j.invariant.1.there in
+    omega (arith, c.requires.0.rowed.few, in_row)
 
 pub bounds-row-x : goal.bounds-row-x
-bounds-row-x c = omega (arith, c.requires.0.rowed.long, in_row c.before.before)
+bounds-row-x c =
+    let in_row : c.loop-j.x < c.args.positions * c.args.n = let a = c.args in sound_here a.row.now a.n a.positions a.s c.requires.0 c.loop-j.j c.loop-j.x c.loop-j.invariant.1.there in
+    omega (arith, c.requires.0.rowed.long, in_row)
 
 pub overflow_sub-count : goal.overflow_sub-count
 overflow_sub-count c = omega (arith, c.loop-j-test.true)
@@ -30,11 +28,14 @@ pub overflow_mul-count : goal.overflow_mul-count
 overflow_mul-count c = omega (arith, c.requires.1, c.loop-j.invariant.1.some)
 
 pub write_arc-requires : goal.write_arc-requires
-write_arc-requires c = let r = c.requires.0.rowed in (
+write_arc-requires c =
+    let in_row : c.loop-j.x < c.args.positions * c.args.n = let a = c.args in sound_here a.row.now a.n a.positions a.s c.requires.0 c.loop-j.j c.loop-j.x c.loop-j.invariant.1.there in
+    let next-in-row : get_or c.args.row.now c.loop-j.x 0 / 8 < c.args.positions * c.args.n = let a = c.args in sound_next a.row.now a.n a.positions a.s c.requires.0 c.loop-j.j c.loop-j.x c.loop-j.invariant.1.there in
+    let r = c.requires.0.rowed in (
   omega (arith, c.requires.2, c.loop-j.invariant.0, c.loop-j.invariant.1.some, c.loop-j-test.true),
   r.some,
-  omega (arith, r.few, in_row c.before.before.before),
-  omega (arith, r.few, next-in-row c.before.before.before),
+  omega (arith, r.few, in_row),
+  omega (arith, r.few, next-in-row),
 )
 
 pub loop-j-smaller : goal.loop-j-smaller

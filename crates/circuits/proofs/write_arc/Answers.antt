@@ -11,45 +11,63 @@ use Rattle.circuits.proofs.Writing.{few_places, four}
 use borrow.Author.Rules.{rules}
 use Rattle.circuits.proofs.write_arc.Goals as goal
 
--- the nodes are those of the mark's arc
-ends-are : (c : goal.After-places_of-arc) → let a = c.args in c.places_of-arc.result ≡ places_of (a.mark % 8) (a.mark / 8) a.v
-ends-are c = let a = c.args in c.places_of-arc.ensures ∙ ap (λ (u : ℕ). places_of (a.mark % 8) u a.v) c.departure-u.ensures
-
-few : (c : goal.After-places_of-arc) → let n = c.args.n in let e = c.places_of-arc.result in (e.here / n < 192) × (e.to % n < 192) × (e.from % n < 192)
-few c = let a = c.args in
-    subst (λ (e : Places). (e.here / a.n < 192) × (e.to % a.n < 192) × (e.from % a.n < 192)) (sym (ends-are c)) (few_places (a.mark % 8) (a.mark / 8) a.v a.n c.requires.3 c.requires.2)
-
 pub overflow_add-position : goal.overflow_add-position
-overflow_add-position c = omega (arith, few c.before)
+overflow_add-position c =
+    let ends-are : c.places_of-arc.result ≡ places_of (c.args.mark % 8) (c.args.mark / 8) c.args.v = let a = c.args in c.places_of-arc.ensures ∙ ap (λ (u : ℕ). places_of (a.mark % 8) u a.v) c.departure-u.ensures in
+    let few : (c.places_of-arc.result.here / c.args.n < 192) × (c.places_of-arc.result.to % c.args.n < 192) × (c.places_of-arc.result.from % c.args.n < 192) = let a = c.args in
+    subst (λ (e : Places). (e.here / a.n < 192) × (e.to % a.n < 192) × (e.from % a.n < 192)) (sym ends-are) (few_places (a.mark % 8) (a.mark / 8) a.v a.n c.requires.3 c.requires.2) in
+    omega (arith, few)
 
 pub overflow_add-to : goal.overflow_add-to
-overflow_add-to c = omega (arith, few c.before.before)
+overflow_add-to c =
+    let ends-are : c.places_of-arc.result ≡ places_of (c.args.mark % 8) (c.args.mark / 8) c.args.v = let a = c.args in c.places_of-arc.ensures ∙ ap (λ (u : ℕ). places_of (a.mark % 8) u a.v) c.departure-u.ensures in
+    let few : (c.places_of-arc.result.here / c.args.n < 192) × (c.places_of-arc.result.to % c.args.n < 192) × (c.places_of-arc.result.from % c.args.n < 192) = let a = c.args in
+    subst (λ (e : Places). (e.here / a.n < 192) × (e.to % a.n < 192) × (e.from % a.n < 192)) (sym ends-are) (few_places (a.mark % 8) (a.mark / 8) a.v a.n c.requires.3 c.requires.2) in
+    omega (arith, few)
 
 pub overflow_add-from : goal.overflow_add-from
-overflow_add-from c = omega (arith, few c.before.before.before)
+overflow_add-from c =
+    let ends-are : c.places_of-arc.result ≡ places_of (c.args.mark % 8) (c.args.mark / 8) c.args.v = let a = c.args in c.places_of-arc.ensures ∙ ap (λ (u : ℕ). places_of (a.mark % 8) u a.v) c.departure-u.ensures in
+    let few : (c.places_of-arc.result.here / c.args.n < 192) × (c.places_of-arc.result.to % c.args.n < 192) × (c.places_of-arc.result.from % c.args.n < 192) = let a = c.args in
+    subst (λ (e : Places). (e.here / a.n < 192) × (e.to % a.n < 192) × (e.from % a.n < 192)) (sym ends-are) (few_places (a.mark % 8) (a.mark / 8) a.v a.n c.requires.3 c.requires.2) in
+    omega (arith, few)
 
 pub overflow_cast-circuit-2 : goal.overflow_cast-circuit-2
-overflow_cast-circuit-2 c = omega (arith, few c.before.before.before)
+overflow_cast-circuit-2 c =
+    let ends-are : c.places_of-arc.result ≡ places_of (c.args.mark % 8) (c.args.mark / 8) c.args.v = let a = c.args in c.places_of-arc.ensures ∙ ap (λ (u : ℕ). places_of (a.mark % 8) u a.v) c.departure-u.ensures in
+    let few : (c.places_of-arc.result.here / c.args.n < 192) × (c.places_of-arc.result.to % c.args.n < 192) × (c.places_of-arc.result.from % c.args.n < 192) = let a = c.args in
+    subst (λ (e : Places). (e.here / a.n < 192) × (e.to % a.n < 192) × (e.from % a.n < 192)) (sym ends-are) (few_places (a.mark % 8) (a.mark / 8) a.v a.n c.requires.3 c.requires.2) in
+    omega (arith, few)
 
 pub bounds-circuit-at-2 : goal.bounds-circuit-at-2
 bounds-circuit-at-2 c = simp length-set (omega arith)
 
 pub overflow_cast-circuit-3 : goal.overflow_cast-circuit-3
-overflow_cast-circuit-3 c = omega (arith, few c.before.before.before)
+overflow_cast-circuit-3 c =
+    let ends-are : c.places_of-arc.result ≡ places_of (c.args.mark % 8) (c.args.mark / 8) c.args.v = let a = c.args in c.places_of-arc.ensures ∙ ap (λ (u : ℕ). places_of (a.mark % 8) u a.v) c.departure-u.ensures in
+    let few : (c.places_of-arc.result.here / c.args.n < 192) × (c.places_of-arc.result.to % c.args.n < 192) × (c.places_of-arc.result.from % c.args.n < 192) = let a = c.args in
+    subst (λ (e : Places). (e.here / a.n < 192) × (e.to % a.n < 192) × (e.from % a.n < 192)) (sym ends-are) (few_places (a.mark % 8) (a.mark / 8) a.v a.n c.requires.3 c.requires.2) in
+    omega (arith, few)
 
 pub bounds-circuit-at-3 : goal.bounds-circuit-at-3
 bounds-circuit-at-3 c = simp length-set (omega arith)
 
 pub overflow_cast-circuit-4 : goal.overflow_cast-circuit-4
-overflow_cast-circuit-4 c = omega (arith, few c.before.before.before)
+overflow_cast-circuit-4 c =
+    let ends-are : c.places_of-arc.result ≡ places_of (c.args.mark % 8) (c.args.mark / 8) c.args.v = let a = c.args in c.places_of-arc.ensures ∙ ap (λ (u : ℕ). places_of (a.mark % 8) u a.v) c.departure-u.ensures in
+    let few : (c.places_of-arc.result.here / c.args.n < 192) × (c.places_of-arc.result.to % c.args.n < 192) × (c.places_of-arc.result.from % c.args.n < 192) = let a = c.args in
+    subst (λ (e : Places). (e.here / a.n < 192) × (e.to % a.n < 192) × (e.from % a.n < 192)) (sym ends-are) (few_places (a.mark % 8) (a.mark / 8) a.v a.n c.requires.3 c.requires.2) in
+    omega (arith, few)
 
 pub bounds-circuit-at-4 : goal.bounds-circuit-at-4
 bounds-circuit-at-4 c = simp length-set (omega arith)
 
 pub returns : goal.returns
-returns c = let a = c.args in let r = c.places_of-arc.result in
+returns c =
+    let ends-are : c.places_of-arc.result ≡ places_of (c.args.mark % 8) (c.args.mark / 8) c.args.v = let a = c.args in c.places_of-arc.ensures ∙ ap (λ (u : ℕ). places_of (a.mark % 8) u a.v) c.departure-u.ensures in
+    let a = c.args in let r = c.places_of-arc.result in
     four a.circuit.now a.at (a.mark % 8) (r.here / a.n + 1) (r.to % a.n + 1) (r.from % a.n + 1)
-    ∙ ap (λ (c.before.before.before : Places). sets a.circuit.now a.at ((a.mark % 8) ∷ (c.here / a.n + 1) ∷ (c.to % a.n + 1) ∷ (c.from % a.n + 1) ∷ [])) (ends-are c.before.before.before)
+    ∙ ap (λ (c.before.before.before : Places). sets a.circuit.now a.at ((a.mark % 8) ∷ (c.here / a.n + 1) ∷ (c.to % a.n + 1) ∷ (c.from % a.n + 1) ∷ [])) ends-are
 
 -- UNMATCHED nonzero-div-position: div-position : tie.Need-nonzero-div-position div-position c = search rules
 -- UNMATCHED nonzero-rem-to: rem-to : tie.Need-nonzero-rem-to rem-to c = search rules

@@ -22,13 +22,6 @@ other (suc (suc (suc (suc k)))) a q here next cross h = refl
 product : (q u m : ℕ) → q ≤ 1000 → u ≤ m → q * u ≤ 1000 * m
 product q u m h k = mul-le-mul h k
 
--- the limit is the record's
-up_is : (c : goal.After-struct_known-3-1) → c.upper.result ≡ up c.args.w.w
-up_is c = c.upper.ensures.0 ∙ ap up (passed c.args.w.w c.struct_told-1.given.1.1.1.0.1)
-
-down_is : (c : goal.After-struct_known-3-1) → c.lower.result ≡ down c.args.w.w
-down_is c = c.lower.ensures.0 ∙ ap down (passed c.args.w.w c.struct_told-2-1.given.1.1.1.0.1)
-
 -- the arm of a kind
 arm : (k : ℕ) (a : Record) (q here next cross : ℕ) → a.kind ≡ k → by_kind k a q here next cross ≡ by_kind a.kind a q here next cross
 arm k a q here next cross e = ap (λ (j : ℕ). by_kind j a q here next cross) (sym e)
@@ -45,23 +38,35 @@ overflow_add-crossed c = let r = c.lower in
 
 pub returns-in-0 : goal.returns-in-0
 unfolding by_kind
-returns-in-0 c = let a = c.args in
-    c.between.ensures ∙ ap₂ (λ (u d : ℕ). edge (a.here + a.w.from - 1) (a.here + a.w.to - 1) (a.q * u) (a.q * d)) (up_is c.before.before) (down_is c.before.before) ∙ arm 0 a.w a.q a.here a.next a.cross c.in-0.is
+returns-in-0 c =
+    let up_is : c.upper.result ≡ up c.args.w.w = c.upper.ensures.0 ∙ ap up (passed c.args.w.w c.struct_told-1.given.1.1.1.0.1) in
+    let down_is : c.lower.result ≡ down c.args.w.w = c.lower.ensures.0 ∙ ap down (passed c.args.w.w c.struct_told-2-1.given.1.1.1.0.1) in
+    let a = c.args in
+    c.between.ensures ∙ ap₂ (λ (u d : ℕ). edge (a.here + a.w.from - 1) (a.here + a.w.to - 1) (a.q * u) (a.q * d)) up_is down_is ∙ arm 0 a.w a.q a.here a.next a.cross c.in-0.is
 
 pub returns-in-1 : goal.returns-in-1
 unfolding by_kind
-returns-in-1 c = let a = c.args in
-    c.between-in-1.ensures ∙ ap₂ (λ (u d : ℕ). edge (a.here + a.w.to - 1) (a.here + a.w.from - 1) (a.q * d) (a.q * u)) (up_is c.before.before) (down_is c.before.before) ∙ arm 1 a.w a.q a.here a.next a.cross c.in-1.is
+returns-in-1 c =
+    let up_is : c.upper.result ≡ up c.args.w.w = c.upper.ensures.0 ∙ ap up (passed c.args.w.w c.struct_told-1.given.1.1.1.0.1) in
+    let down_is : c.lower.result ≡ down c.args.w.w = c.lower.ensures.0 ∙ ap down (passed c.args.w.w c.struct_told-2-1.given.1.1.1.0.1) in
+    let a = c.args in
+    c.between-in-1.ensures ∙ ap₂ (λ (u d : ℕ). edge (a.here + a.w.to - 1) (a.here + a.w.from - 1) (a.q * d) (a.q * u)) up_is down_is ∙ arm 1 a.w a.q a.here a.next a.cross c.in-1.is
 
 pub returns-in-2 : goal.returns-in-2
 unfolding by_kind
-returns-in-2 c = let a = c.args in
-    c.between-in-2.ensures ∙ ap₂ (λ (u d : ℕ). edge (a.here + a.w.from - 1) (a.next + a.w.to - 1) (a.q * u) (a.q * d + a.cross)) (up_is c.before.before) (down_is c.before.before) ∙ arm 2 a.w a.q a.here a.next a.cross c.in-2.is
+returns-in-2 c =
+    let up_is : c.upper.result ≡ up c.args.w.w = c.upper.ensures.0 ∙ ap up (passed c.args.w.w c.struct_told-1.given.1.1.1.0.1) in
+    let down_is : c.lower.result ≡ down c.args.w.w = c.lower.ensures.0 ∙ ap down (passed c.args.w.w c.struct_told-2-1.given.1.1.1.0.1) in
+    let a = c.args in
+    c.between-in-2.ensures ∙ ap₂ (λ (u d : ℕ). edge (a.here + a.w.from - 1) (a.next + a.w.to - 1) (a.q * u) (a.q * d + a.cross)) up_is down_is ∙ arm 2 a.w a.q a.here a.next a.cross c.in-2.is
 
 pub returns-in-3 : goal.returns-in-3
 unfolding by_kind
-returns-in-3 c = let a = c.args in
-    c.between-in-3.ensures ∙ ap₂ (λ (u d : ℕ). edge (a.next + a.w.to - 1) (a.here + a.w.from - 1) (a.q * d + a.cross) (a.q * u)) (up_is c.before.before) (down_is c.before.before) ∙ arm 3 a.w a.q a.here a.next a.cross c.in-3.is
+returns-in-3 c =
+    let up_is : c.upper.result ≡ up c.args.w.w = c.upper.ensures.0 ∙ ap up (passed c.args.w.w c.struct_told-1.given.1.1.1.0.1) in
+    let down_is : c.lower.result ≡ down c.args.w.w = c.lower.ensures.0 ∙ ap down (passed c.args.w.w c.struct_told-2-1.given.1.1.1.0.1) in
+    let a = c.args in
+    c.between-in-3.ensures ∙ ap₂ (λ (u d : ℕ). edge (a.next + a.w.to - 1) (a.here + a.w.from - 1) (a.q * d + a.cross) (a.q * u)) up_is down_is ∙ arm 3 a.w a.q a.here a.next a.cross c.in-3.is
 
 pub returns-in-4-to-255 : goal.returns-in-4-to-255
 returns-in-4-to-255 c = let r = c.in-0.rest in let a = c.args in

@@ -14,22 +14,22 @@ use lib.IntN.{pos}
 use borrow.Author.Rules.{rules}
 use Rattle.keeping.proofs.are_in_reach.Goals as goal
 
--- the test of this turn's time, from what `is_in_reach` ensures of it
-here : (c : goal.After-is_in_reach) → c.is_in_reach.result ≡ in_reach (get_or c.args.times.now c.loop-v.v (pos 0))
-here c =
-    let z = get_or c.args.times.now c.loop-v.v (pos 0) in
-    c.is_in_reach.ensures ∙ ap in_reach (to_z-of_z w64 z (record { sfits = c.is_in_reach-arg-1.given }))
-
 pub loop-v-init : goal.loop-v-init
 loop-v-init c = let a = c.args in (omega arith, c.requires, ap (λ (n : ℕ). all in_reach (take n a.times.now)) (sym (sub-zero a.count)))
 
 pub returns-then-not-is_in_reach : goal.returns-then-not-is_in_reach
-returns-then-not-is_in_reach c = let a = c.args in
-    all_stop in_reach a.times.now a.count c.loop-v.v (pos 0) _ c.loop-v.invariant.2 (omega arith) (omega arith) (sym (here c.before) ∙ not-true _ c.if-not-is_in_reach.true)
+returns-then-not-is_in_reach c =
+    let here : c.is_in_reach.result ≡ in_reach (get_or c.args.times.now c.loop-v.v (pos 0)) = let z = get_or c.args.times.now c.loop-v.v (pos 0) in
+    c.is_in_reach.ensures ∙ ap in_reach (to_z-of_z w64 z (record { sfits = c.is_in_reach-arg-1.given })) in
+    let a = c.args in
+    all_stop in_reach a.times.now a.count c.loop-v.v (pos 0) _ c.loop-v.invariant.2 (omega arith) (omega arith) (sym here ∙ c.if-not-is_in_reach.true)
 
 pub loop-v-preserved : goal.loop-v-preserved
-loop-v-preserved c = let a = c.args in
-    (omega arith, c.loop-v.invariant.1, all_next in_reach a.times.now a.count c.loop-v.v (pos 0) _ c.loop-v.invariant.2 (omega arith) (omega arith) (sym (here c.before) ∙ not-false _ c.if-not-is_in_reach.false))
+loop-v-preserved c =
+    let here : c.is_in_reach.result ≡ in_reach (get_or c.args.times.now c.loop-v.v (pos 0)) = let z = get_or c.args.times.now c.loop-v.v (pos 0) in
+    c.is_in_reach.ensures ∙ ap in_reach (to_z-of_z w64 z (record { sfits = c.is_in_reach-arg-1.given })) in
+    let a = c.args in
+    (omega arith, c.loop-v.invariant.1, all_next in_reach a.times.now a.count c.loop-v.v (pos 0) _ c.loop-v.invariant.2 (omega arith) (omega arith) (sym here ∙ c.if-not-is_in_reach.false))
 
 pub returns : goal.returns
 returns c = let a = c.args in

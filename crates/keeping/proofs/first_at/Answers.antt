@@ -12,17 +12,11 @@ use Rattle.keeping.proofs.Windows.{granted, limits, part, spreads}
 use borrow.Author.Rules.{rules}
 use Rattle.keeping.proofs.first_at.Goals as goal
 
--- the mode's part lies within the tables
-fit : (c : goal.Start) → let a = c.args in Sizes (get_or a.schedule.now a.g 0) a.line.m a.line.n
-fit c = let a = c.args in let ok = (granted a.line a.tables.now a.schedule.now a.times.now c.requires.0).sheet_ok in
-    sizes (get_or a.schedule.now a.g 0) a.line.m a.line.n ok.size.few_events ok.size.few_modes (ok.modes a.g c.requires.1)
-
--- and they are long enough
-long : (c : goal.Start) → let a = c.args in a.line.m * (4 * (a.line.n * a.line.n)) ≤ length a.tables.now
-long c = let a = c.args in omega (arith, (granted a.line a.tables.now a.schedule.now a.times.now c.requires.0).sheet_ok.size.long_tables)
-
-first_is : (c : goal.After-wide) → let a = c.args in c.wide.result * (4 * (a.line.n * a.line.n)) ≡ get_or a.schedule.now a.g 0 * (4 * (a.line.n * a.line.n))
-first_is c = let a = c.args in ap (λ (t : ℕ). t * (4 * (a.line.n * a.line.n))) c.wide.ensures
+-- FIXME
+-- what is lent is the mode's part
+lent : (c : goal.After-wide) → let a = c.before.before.before.before.args in let from = c.wide.result * (4 * (a.line.n * a.line.n)) in
+    take (length a.tables.now - from) (drop from a.tables.now) ≡ part a.line a.tables.now a.schedule.now a.times.now c.before.before.before.before.requires.0 a.g
+lent c = let a = c.before.before.before.before.args in rest _ a.tables.now ∙ ap (λ (k : ℕ). drop k a.tables.now) (first_is c)
 
 pub overflow_mul-size : goal.overflow_mul-size
 overflow_mul-size c = omega (arith, square c.args.line.n (limits c.args.line c.args.tables.now c.args.schedule.now c.args.times.now c.requires.0 c.args.g c.requires.1).few_events)
@@ -34,24 +28,36 @@ pub bounds-schedule-g : goal.bounds-schedule-g
 bounds-schedule-g c = omega (arith, c.requires.1, (granted c.args.line c.args.tables.now c.args.schedule.now c.args.times.now c.requires.0).sheet_ok.size.long_schedule)
 
 pub overflow_mul-first : goal.overflow_mul-first
-overflow_mul-first c = omega (arith, first_is c, (fit c.before.before.before.before).part, (fit c.before.before.before.before).whole)
+overflow_mul-first c =
+    let fit : Sizes (get_or c.args.schedule.now c.args.g 0) c.args.line.m c.args.line.n = let a = c.args in let ok = (granted a.line a.tables.now a.schedule.now a.times.now c.requires.0).sheet_ok in
+    sizes (get_or a.schedule.now a.g 0) a.line.m a.line.n ok.size.few_events ok.size.few_modes (ok.modes a.g c.requires.1) in
+    let first_is : c.wide.result * (4 * (c.args.line.n * c.args.line.n)) ≡ get_or c.args.schedule.now c.args.g 0 * (4 * (c.args.line.n * c.args.line.n)) = let a = c.args in ap (λ (t : ℕ). t * (4 * (a.line.n * a.line.n))) c.wide.ensures in
+    omega (arith, first_is, fit.part, fit.whole)
 
 pub offset_bounds-tables-first : goal.offset_bounds-tables-first
-offset_bounds-tables-first c = omega (arith, first_is c, (fit c.before.before.before.before).part, (fit c.before.before.before.before).whole)
+offset_bounds-tables-first c =
+    let fit : Sizes (get_or c.args.schedule.now c.args.g 0) c.args.line.m c.args.line.n = let a = c.args in let ok = (granted a.line a.tables.now a.schedule.now a.times.now c.requires.0).sheet_ok in
+    sizes (get_or a.schedule.now a.g 0) a.line.m a.line.n ok.size.few_events ok.size.few_modes (ok.modes a.g c.requires.1) in
+    let first_is : c.wide.result * (4 * (c.args.line.n * c.args.line.n)) ≡ get_or c.args.schedule.now c.args.g 0 * (4 * (c.args.line.n * c.args.line.n)) = let a = c.args in ap (λ (t : ℕ). t * (4 * (a.line.n * a.line.n))) c.wide.ensures in
+    omega (arith, first_is, fit.part, fit.whole)
 
 pub slice_bounds-first_broken-count : goal.slice_bounds-first_broken-count
-slice_bounds-first_broken-count c = omega (arith, first_is c, (fit c.before.before.before.before).part, long c.before.before.before.before)
-
--- what is lent is the mode's part
-lent : (c : goal.After-wide) → let a = c.args in let from = c.wide.result * (4 * (a.line.n * a.line.n)) in
-    take (length a.tables.now - from) (drop from a.tables.now) ≡ part a.line a.tables.now a.schedule.now a.times.now c.requires.0 a.g
-lent c = let a = c.args in rest _ a.tables.now ∙ ap (λ (k : ℕ). drop k a.tables.now) (first_is c)
+slice_bounds-first_broken-count c =
+    let fit : Sizes (get_or c.args.schedule.now c.args.g 0) c.args.line.m c.args.line.n = let a = c.args in let ok = (granted a.line a.tables.now a.schedule.now a.times.now c.requires.0).sheet_ok in
+    sizes (get_or a.schedule.now a.g 0) a.line.m a.line.n ok.size.few_events ok.size.few_modes (ok.modes a.g c.requires.1) in
+    let long : c.args.line.m * (4 * (c.args.line.n * c.args.line.n)) ≤ length c.args.tables.now = let a = c.args in omega (arith, (granted a.line a.tables.now a.schedule.now a.times.now c.requires.0).sheet_ok.size.long_tables) in
+    let first_is : c.wide.result * (4 * (c.args.line.n * c.args.line.n)) ≡ get_or c.args.schedule.now c.args.g 0 * (4 * (c.args.line.n * c.args.line.n)) = let a = c.args in ap (λ (t : ℕ). t * (4 * (a.line.n * a.line.n))) c.wide.ensures in
+    omega (arith, first_is, fit.part, long)
 
 pub first_broken-requires : goal.first_broken-requires
-first_broken-requires c = let a = c.args in
+first_broken-requires c =
+    let fit : Sizes (get_or c.args.schedule.now c.args.g 0) c.args.line.m c.args.line.n = let a = c.args in let ok = (granted a.line a.tables.now a.schedule.now a.times.now c.requires.0).sheet_ok in
+    sizes (get_or a.schedule.now a.g 0) a.line.m a.line.n ok.size.few_events ok.size.few_modes (ok.modes a.g c.requires.1) in
+    let long : c.args.line.m * (4 * (c.args.line.n * c.args.line.n)) ≤ length c.args.tables.now = let a = c.args in omega (arith, (granted a.line a.tables.now a.schedule.now a.times.now c.requires.0).sheet_ok.size.long_tables) in
+    let a = c.args in
     let k = get_or a.schedule.now a.g 0 * (4 * (a.line.n * a.line.n)) in (
       limits a.line a.tables.now a.schedule.now a.times.now c.requires.0 a.g c.requires.1,
-      rw (lent c.before) (omega (arith, length-drop k a.tables.now, (fit c.before.before.before.before.before).part, long c.before.before.before.before.before)),
+      rw (lent c.before) (omega (arith, length-drop k a.tables.now, fit.part, long)),
       subst (λ (l : List ℤ). Spreads l a.line a.g a.times.now) (sym (lent c.before)) (spreads a.line a.tables.now a.schedule.now a.times.now c.requires.0 a.g c.requires.1),
     )
 

@@ -12,13 +12,15 @@ use Rattle.keeping.proofs.First.{none_yet, one_more, found, not_found}
 use borrow.Author.Rules.{rules}
 use Rattle.keeping.proofs.first_broken.Goals as goal
 
+-- FIXME
 -- the test of this turn's place
-here : (c : goal.After-is_broken) → let a = c.args in
-    c.is_broken.result ≡ breaks_at a.line a.g c.loop-k.k (get_or a.part.now c.loop-k.k (pos 0)) a.times.now
+here : (c : goal.After-is_broken) → let l = c.before.before.before in let a = l.before.before.args in
+    c.is-broken.result ≡ breaks_at a.line a.g l.loop.k (get_or a.part.now l.loop.k (pos 0)) a.times.now
 here c =
-    let a = c.args in
-    let v = get_or a.part.now c.loop-k.k (pos 0) in
-    c.is_broken.ensures ∙ ap (λ (w : ℤ). breaks_at a.line a.g c.loop-k.k w a.times.now) (passed v c.is_broken-arg-1.given)
+    let l = c.before.before.before in
+    let a = l.before.before.args in
+    let v = get_or a.part.now l.loop.k (pos 0) in
+    c.is-broken.ensures ∙ ap (λ (w : ℤ). breaks_at a.line a.g l.loop.k w a.times.now) (passed v c.before.is-broken-arg.given)
 
 pub overflow_mul-size : goal.overflow_mul-size
 overflow_mul-size c = omega (arith, square c.args.line.n c.requires.0.few_events)

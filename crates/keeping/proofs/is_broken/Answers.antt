@@ -10,27 +10,26 @@ use Rattle.keeping.specs.Breaks.{keeps_at, breaks_at, Able}
 use borrow.Author.Rules.{rules}
 use Rattle.keeping.proofs.is_broken.Goals as goal
 
--- the test for "no window" is that of the value
-module _ (c : goal.After-is_absent) where
-  is : c.is_absent.result ≡ absent c.args.value
-  is = c.is_absent.ensures ∙ ap absent (passed c.args.value c.ranges.value.sfits)
-
-there : (c : goal.Else-is_absent) → absent c.args.value ≡ false
-there c = sym (is c.before) ∙ c.if-is_absent.false
-
-from-place-is : (c : goal.After-from_place-w) → let a = c.args in c.from_place-w.result ≡ from_place a.line.n a.k a.value
-from-place-is c = c.from_place-w.ensures ∙ ap (from_place c.args.line.n c.args.k) (passed c.args.value c.ranges.value.sfits)
-
 pub returns-then-is_absent : goal.returns-then-is_absent
 unfolding breaks_at
-returns-then-is_absent c = rw (sym (is c.before) ∙ c.if-is_absent.true)
+returns-then-is_absent c =
+    let is : c.is_absent.result ≡ absent c.args.value = c.is_absent.ensures ∙ ap absent (passed c.args.value c.ranges.value.sfits) in
+    rw (sym is ∙ c.if-is_absent.true)
 
 pub is_kept-requires : goal.is_kept-requires
-is_kept-requires c = let a = c.args in
-    subst (λ (w : Record). Able a.line a.g w a.times.now) (sym (from-place-is c))
-    (record { limits = c.requires.limits; to_first = omega arith; from_first = omega arith; reach = c.requires.reach (there c.before) })
+is_kept-requires c =
+    let is : c.is_absent.result ≡ absent c.args.value = c.is_absent.ensures ∙ ap absent (passed c.args.value c.ranges.value.sfits) in
+    let there : absent c.args.value ≡ false = sym is ∙ c.if-is_absent.false in
+    let from-place-is : c.from_place-w.result ≡ from_place c.args.line.n c.args.k c.args.value = c.from_place-w.ensures ∙ ap (from_place c.args.line.n c.args.k) (passed c.args.value c.ranges.value.sfits) in
+    let a = c.args in
+    subst (λ (w : Record). Able a.line a.g w a.times.now) (sym from-place-is)
+    (record { limits = c.requires.limits; to_first = omega arith; from_first = omega arith; reach = c.requires.reach there })
 
 pub returns : goal.returns
 unfolding breaks_at
-returns c = let a = c.args in
-    rw (there c.before.before) (ap not (c.is_kept.ensures ∙ ap (λ (w : Record). keeps_at a.line a.g w a.times.now) (from-place-is c.before)))
+returns c =
+    let is : c.is_absent.result ≡ absent c.args.value = c.is_absent.ensures ∙ ap absent (passed c.args.value c.ranges.value.sfits) in
+    let there : absent c.args.value ≡ false = sym is ∙ c.if-is_absent.false in
+    let from-place-is : c.from_place-w.result ≡ from_place c.args.line.n c.args.k c.args.value = c.from_place-w.ensures ∙ ap (from_place c.args.line.n c.args.k) (passed c.args.value c.ranges.value.sfits) in
+    let a = c.args in
+    rw there (ap not (c.is_kept.ensures ∙ ap (λ (w : Record). keeps_at a.line a.g w a.times.now) from-place-is))

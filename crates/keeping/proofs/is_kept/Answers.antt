@@ -12,32 +12,45 @@ use Rattle.edges.specs.declared.Edge.{Edge}
 use Rattle.keeping.specs.Breaks.{lift, lifted_at, keeps_at, Reach}
 use Rattle.keeping.proofs.is_kept.Goals as goal
 
-reach : (c : goal.After-edge_at-arc) → Reach c.edge_at-arc.result c.args.times.now
-reach c = subst (λ (e : Edge). Reach e c.args.times.now) (sym c.edge_at-arc.ensures) c.requires.reach
-
 pub offset_bounds-times-leaves : goal.offset_bounds-times-leaves
-offset_bounds-times-leaves c = omega (arith, (reach c).departs_few)
+offset_bounds-times-leaves c =
+    let reach : Reach c.edge_at-arc.result c.args.times.now = subst (λ (e : Edge). Reach e c.args.times.now) (sym c.edge_at-arc.ensures) c.requires.reach in
+    omega (arith, reach.departs_few)
 
 pub bounds-times-leaves : goal.bounds-times-leaves
-bounds-times-leaves c = (reach c).departs
+bounds-times-leaves c =
+    let reach : Reach c.edge_at-arc.result c.args.times.now = subst (λ (e : Edge). Reach e c.args.times.now) (sym c.edge_at-arc.ensures) c.requires.reach in
+    reach.departs
 
 pub lifted-departure-requires : goal.lifted-departure-requires
-lifted-departure-requires c = rw (to_z-of_z w64 (get_or c.args.times.now c.edge_at-arc.result.departure (pos 0)) (record { sfits = c.lifted-arg-1.given })) (reach c.before).leaves_in
+lifted-departure-requires c =
+    let reach : Reach c.edge_at-arc.result c.args.times.now = subst (λ (e : Edge). Reach e c.args.times.now) (sym c.edge_at-arc.ensures) c.requires.reach in
+    rw (to_z-of_z w64 (get_or c.args.times.now c.edge_at-arc.result.departure (pos 0)) (record { sfits = c.lifted-arg-1.given })) reach.leaves_in
 
 pub offset_bounds-times-comes : goal.offset_bounds-times-comes
-offset_bounds-times-comes c = omega (arith, (reach c.before.before).arrives_few)
+offset_bounds-times-comes c =
+    let reach : Reach c.edge_at-arc.result c.args.times.now = subst (λ (e : Edge). Reach e c.args.times.now) (sym c.edge_at-arc.ensures) c.requires.reach in
+    omega (arith, reach.arrives_few)
 
 pub bounds-times-comes : goal.bounds-times-comes
-bounds-times-comes c = (reach c.before.before).arrives
+bounds-times-comes c =
+    let reach : Reach c.edge_at-arc.result c.args.times.now = subst (λ (e : Edge). Reach e c.args.times.now) (sym c.edge_at-arc.ensures) c.requires.reach in
+    reach.arrives
 
 pub lifted-arrival-requires : goal.lifted-arrival-requires
-lifted-arrival-requires c = rw (to_z-of_z w64 (get_or c.args.times.now c.edge_at-arc.result.arrival (pos 0)) (record { sfits = c.lifted-arg-2-1.given })) (reach c.before.before.before).comes_in
+lifted-arrival-requires c =
+    let reach : Reach c.edge_at-arc.result c.args.times.now = subst (λ (e : Edge). Reach e c.args.times.now) (sym c.edge_at-arc.ensures) c.requires.reach in
+    rw (to_z-of_z w64 (get_or c.args.times.now c.edge_at-arc.result.arrival (pos 0)) (record { sfits = c.lifted-arg-2-1.given })) reach.comes_in
 
 pub overflow_add-result : goal.overflow_add-result
-overflow_add-result c = omega (arith, (reach c.before.before.before.before.before).rise_small, c.lifted-departure.ensures.1)
+overflow_add-result c =
+    let reach : Reach c.edge_at-arc.result c.args.times.now = subst (λ (e : Edge). Reach e c.args.times.now) (sym c.edge_at-arc.ensures) c.requires.reach in
+    omega (arith, reach.rise_small, c.lifted-departure.ensures.1)
 
 pub overflow_add-result-2 : goal.overflow_add-result-2
-overflow_add-result-2 c = omega (arith, (reach c.before.before.before.before.before.before).fall_small, c.lifted-arrival.ensures.1)
+overflow_add-result-2 c =
+    let reach : Reach c.edge_at-arc.result c.args.times.now = subst (λ (e : Edge). Reach e c.args.times.now) (sym c.edge_at-arc.ensures) c.requires.reach in
+    omega (arith, reach.fall_small, c.lifted-arrival.ensures.1)
 
 pub returns : goal.returns
 unfolding keeps_at

@@ -9,11 +9,6 @@ use Rattle.keeping.specs.Breaks.{lift}
 use Rattle.keeping.proofs.Reach.{lifts}
 use Rattle.keeping.proofs.lifted.Goals as goal
 
--- the sum fits, and is the lifted time
-module _ (c : goal.Start) where
-  sum : c.args.time +ℤ pos 382000000000 ≡ pos (lift c.args.time)
-  sum = (lifts c.args.time c.requires).0
-
   fits : SFits w64 (c.args.time +ℤ pos 382000000000)
   fits = rw sum (record { sfits = omega (arith, (lifts c.args.time c.requires).1) })
 
@@ -21,7 +16,11 @@ pub overflow_add-result : goal.overflow_add-result
 overflow_add-result c = rw (to_z-of_z w64 c.args.time c.ranges.time) (fits c)
 
 pub overflow_cast-result : goal.overflow_cast-result
-overflow_cast-result c = rw (to_z-of_z w64 c.args.time c.ranges.time, to_z-of_z w64 _ (fits c), sum c) (tt, record { fits = omega (arith, (lifts c.args.time c.requires).1) })
+overflow_cast-result c =
+    let sum : c.args.time +ℤ pos 382000000000 ≡ pos (lift c.args.time) = (lifts c.args.time c.requires).0 in
+    rw (to_z-of_z w64 c.args.time c.ranges.time, to_z-of_z w64 _ (fits c), sum) (tt, record { fits = omega (arith, (lifts c.args.time c.requires).1) })
 
 pub returns : goal.returns
-returns c = rw (to_z-of_z w64 c.args.time c.ranges.time, to_z-of_z w64 _ (fits c), sum c) (refl, (lifts c.args.time c.requires).1)
+returns c =
+    let sum : c.args.time +ℤ pos 382000000000 ≡ pos (lift c.args.time) = (lifts c.args.time c.requires).0 in
+    rw (to_z-of_z w64 c.args.time c.ranges.time, to_z-of_z w64 _ (fits c), sum) (refl, (lifts c.args.time c.requires).1)

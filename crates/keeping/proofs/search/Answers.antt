@@ -13,14 +13,15 @@ use Rattle.keeping.proofs.Windows.{granted, first_broken, none_broken}
 use borrow.Author.Rules.{rules}
 use Rattle.keeping.proofs.search.Goals as goal
 
-few : (c : goal.Start) → c.args.line.n ≤ 12
-few c = let a = c.args in (granted a.line a.tables.now a.schedule.now a.times.now c.requires).sheet_ok.size.few_events
-
 pub overflow_mul-size : goal.overflow_mul-size
-overflow_mul-size c = omega (arith, square c.args.line.n (few c.before))
+overflow_mul-size c =
+    let few : c.args.line.n ≤ 12 = let a = c.args in (granted a.line a.tables.now a.schedule.now a.times.now c.requires).sheet_ok.size.few_events in
+    omega (arith, square c.args.line.n few)
 
 pub overflow_mul-size-2 : goal.overflow_mul-size-2
-overflow_mul-size-2 c = omega (arith, square c.args.line.n (few c.before))
+overflow_mul-size-2 c =
+    let few : c.args.line.n ≤ 12 = let a = c.args in (granted a.line a.tables.now a.schedule.now a.times.now c.requires).sheet_ok.size.few_events in
+    omega (arith, square c.args.line.n few)
 
 pub loop-g-init : goal.loop-g-init
 loop-g-init c = (omega arith, λ h l. absurd (omega arith))

@@ -17,9 +17,6 @@ use Rattle.layout.proofs.Laying.{records_few, records_skip, records_one}
 use borrow.Author.Rules.{rules}
 use Rattle.layout.proofs.count.Goals as goal
 
-few : (c : goal.At-loop-k) → c.loop-k.w ≤ 576
-few c = omega (arith, c.loop-k.invariant.0, c.loop-k.invariant.1, records_few c.args.part.now c.args.n c.loop-k.k, square c.args.n c.requires.1)
-
 pub overflow_mul-size : goal.overflow_mul-size
 overflow_mul-size c = omega (arith, square c.args.n c.requires.1)
 
@@ -37,7 +34,9 @@ pub bounds-part-k : goal.bounds-part-k
 bounds-part-k c = omega (arith, c.requires.2, c.loop-k-test.true)
 
 pub overflow_add-w : goal.overflow_add-w
-overflow_add-w c = omega (arith, few c.before.before.before.before)
+overflow_add-w c =
+    let few : c.loop-k.w ≤ 576 = omega (arith, c.loop-k.invariant.0, c.loop-k.invariant.1, records_few c.args.part.now c.args.n c.loop-k.k, square c.args.n c.requires.1) in
+    omega (arith, few)
 
 pub loop-k-preserved : goal.loop-k-preserved
 loop-k-preserved c = let a = c.args in

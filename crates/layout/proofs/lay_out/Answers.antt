@@ -18,23 +18,6 @@ use borrow.Author.Rules.{rules}
 use Rattle.layout.proofs.lay_out.Invariants.{Stop}
 use Rattle.layout.proofs.lay_out.Goals as goal
 
-fit : (c : goal.In-loop-t) → Sizes c.loop-t.t c.args.m c.args.n
-fit c = sizes c.loop-t.t c.args.m c.args.n c.requires.1 c.requires.2 c.loop-t-test.true
-
--- the place where the mode's part starts
-abbrev start : (c : goal.In-loop-t) → ℕ
-start c = c.loop-t.t * (4 * (c.args.n * c.args.n))
-
--- the part is long enough
-long : (c : goal.In-loop-t) → 4 * (c.args.n * c.args.n) ≤ length (drop (start c) c.args.tables.now)
-long c = omega (arith, length-drop (start c) c.args.tables.now, (fit c).part, c.requires.3)
-
--- fewer records than places before
-few : (c : goal.In-loop-k) → c.loop-k.w < 4608
-few c =
-    let f = fit c.before.before.before.before in
-    omega (arith, fill_few c.args.tables.now c.args.n c.loop-t.t c.loop-k.k c.loop-k.list c.loop-k.w c.loop-k.invariant.1, c.loop-k-test.true, f.part, f.whole)
-
 pub overflow_mul-size : goal.overflow_mul-size
 overflow_mul-size c = omega (arith, square c.args.n c.requires.1)
 
@@ -45,59 +28,96 @@ pub loop-t-init : goal.loop-t-init
 loop-t-init c = (omega arith, fill_none c.args.tables.now c.args.n)
 
 pub overflow_mul-first : goal.overflow_mul-first
-overflow_mul-first c = let f = fit c in omega (arith, f.part, f.whole)
+overflow_mul-first c =
+    let fit : Sizes c.loop-t.t c.args.m c.args.n = sizes c.loop-t.t c.args.m c.args.n c.requires.1 c.requires.2 c.loop-t-test.true in
+    let f = fit in omega (arith, f.part, f.whole)
 
 pub offset_bounds-tables-first : goal.offset_bounds-tables-first
-offset_bounds-tables-first c = let f = fit c in omega (arith, f.part, f.whole)
+offset_bounds-tables-first c =
+    let fit : Sizes c.loop-t.t c.args.m c.args.n = sizes c.loop-t.t c.args.m c.args.n c.requires.1 c.requires.2 c.loop-t-test.true in
+    let f = fit in omega (arith, f.part, f.whole)
 
 pub slice_bounds-part-count : goal.slice_bounds-part-count
-slice_bounds-part-count c = let f = fit c in omega (arith, f.part, c.requires.3)
+slice_bounds-part-count c =
+    let fit : Sizes c.loop-t.t c.args.m c.args.n = sizes c.loop-t.t c.args.m c.args.n c.requires.1 c.requires.2 c.loop-t-test.true in
+    let f = fit in omega (arith, f.part, c.requires.3)
 
 pub next_window-k-requires : goal.next_window-k-requires
-next_window-k-requires c = (c.requires.1, omega arith, omega (arith, ap length (rest (start c.before) c.args.tables.now), long c.before))
+next_window-k-requires c =
+    let start : ℕ = c.loop-t.t * (4 * (c.args.n * c.args.n)) in
+    let fit : Sizes c.loop-t.t c.args.m c.args.n = sizes c.loop-t.t c.args.m c.args.n c.requires.1 c.requires.2 c.loop-t-test.true in
+    let long : 4 * (c.args.n * c.args.n) ≤ length (drop start c.args.tables.now) = omega (arith, length-drop start c.args.tables.now, fit.part, c.requires.3) in
+    (c.requires.1, omega arith, omega (arith, ap length (rest start c.args.tables.now), long))
 
 pub loop-k-init : goal.loop-k-init
-loop-k-init c = let a = c.args in
-    let h = rw (rest (start c.before.before) a.tables.now) at c.next_window-k.ensures in
+loop-k-init c =
+    let start : ℕ = c.loop-t.t * (4 * (c.args.n * c.args.n)) in
+    let a = c.args in
+    let h = rw (rest start a.tables.now) at c.next_window-k.ensures in
     ((h.within, h.window), fill_ahead a.tables.now a.n c.loop-t.t 0 _ c.loop-t.list c.loop-t.w c.loop-t.invariant.1 h)
 
 pub offset_bounds-part-k : goal.offset_bounds-part-k
 offset_bounds-part-k c = omega (arith, square c.args.n c.requires.1, c.loop-k-test.true)
 
 pub bounds-part-k : goal.bounds-part-k
-bounds-part-k c = omega (arith, ap length (rest (start c.before.before.before.before) c.args.tables.now), long c.before.before.before.before, c.loop-k-test.true)
+bounds-part-k c =
+    let start : ℕ = c.loop-t.t * (4 * (c.args.n * c.args.n)) in
+    let fit : Sizes c.loop-t.t c.args.m c.args.n = sizes c.loop-t.t c.args.m c.args.n c.requires.1 c.requires.2 c.loop-t-test.true in
+    let long : 4 * (c.args.n * c.args.n) ≤ length (drop start c.args.tables.now) = omega (arith, length-drop start c.args.tables.now, fit.part, c.requires.3) in
+    omega (arith, ap length (rest start c.args.tables.now), long, c.loop-k-test.true)
 
 pub from_place-requires : goal.from_place-requires
 from_place-requires c = (c.requires.0, c.requires.1, c.loop-k-test.true)
 
 pub offset_bounds-list-w : goal.offset_bounds-list-w
-offset_bounds-list-w c = omega (arith, few c.before.before)
+offset_bounds-list-w c =
+    let fit : Sizes c.loop-t.t c.args.m c.args.n = sizes c.loop-t.t c.args.m c.args.n c.requires.1 c.requires.2 c.loop-t-test.true in
+    let few : c.loop-k.w < 4608 = let f = fit in
+    omega (arith, fill_few c.args.tables.now c.args.n c.loop-t.t c.loop-k.k c.loop-k.list c.loop-k.w c.loop-k.invariant.1, c.loop-k-test.true, f.part, f.whole) in
+    omega (arith, few)
 
 pub bounds-list-w : goal.bounds-list-w
-bounds-list-w c = omega (arith, few c.before.before)
+bounds-list-w c =
+    let fit : Sizes c.loop-t.t c.args.m c.args.n = sizes c.loop-t.t c.args.m c.args.n c.requires.1 c.requires.2 c.loop-t-test.true in
+    let few : c.loop-k.w < 4608 = let f = fit in
+    omega (arith, fill_few c.args.tables.now c.args.n c.loop-t.t c.loop-k.k c.loop-k.list c.loop-k.w c.loop-k.invariant.1, c.loop-k-test.true, f.part, f.whole) in
+    omega (arith, few)
 
 pub overflow_add-w : goal.overflow_add-w
-overflow_add-w c = omega (arith, few c.before.before)
+overflow_add-w c =
+    let fit : Sizes c.loop-t.t c.args.m c.args.n = sizes c.loop-t.t c.args.m c.args.n c.requires.1 c.requires.2 c.loop-t-test.true in
+    let few : c.loop-k.w < 4608 = let f = fit in
+    omega (arith, fill_few c.args.tables.now c.args.n c.loop-t.t c.loop-k.k c.loop-k.list c.loop-k.w c.loop-k.invariant.1, c.loop-k-test.true, f.part, f.whole) in
+    omega (arith, few)
 
 pub overflow_add-k : goal.overflow_add-k
 overflow_add-k c = omega (arith, square c.args.n c.requires.1, c.loop-k-test.true)
 
 pub next_window-k-requires-in-loop-k : goal.next_window-k-requires-in-loop-k
-next_window-k-requires-in-loop-k c = (c.requires.1, omega (arith, c.loop-k-test.true), omega (arith, ap length (rest (start c.before.before.before.before.before.before) c.args.tables.now), long c.before.before.before.before.before.before))
+next_window-k-requires-in-loop-k c =
+    let start : ℕ = c.loop-t.t * (4 * (c.args.n * c.args.n)) in
+    let fit : Sizes c.loop-t.t c.args.m c.args.n = sizes c.loop-t.t c.args.m c.args.n c.requires.1 c.requires.2 c.loop-t-test.true in
+    let long : 4 * (c.args.n * c.args.n) ≤ length (drop start c.args.tables.now) = omega (arith, length-drop start c.args.tables.now, fit.part, c.requires.3) in
+    (c.requires.1, omega (arith, c.loop-k-test.true), omega (arith, ap length (rest start c.args.tables.now), long))
 
 pub loop-k-smaller : goal.loop-k-smaller
 loop-k-smaller c = omega (arith, c.next_window-k-in-loop-k.ensures.from, c.loop-k-test.true)
 
 pub loop-k-preserved : goal.loop-k-preserved
-loop-k-preserved c = let a = c.args in
+loop-k-preserved c =
+    let start : ℕ = c.loop-t.t * (4 * (c.args.n * c.args.n)) in
+    let fit : Sizes c.loop-t.t c.args.m c.args.n = sizes c.loop-t.t c.args.m c.args.n c.requires.1 c.requires.2 c.loop-t-test.true in
+    let few : c.loop-k.w < 4608 = let f = fit in
+    omega (arith, fill_few c.args.tables.now c.args.n c.loop-t.t c.loop-k.k c.loop-k.list c.loop-k.w c.loop-k.invariant.1, c.loop-k-test.true, f.part, f.whole) in
+    let a = c.args in
     let T = a.tables.now in
     let t = c.loop-t.t in
-    let v = get_or (drop (start c.before.before.before.before.before.before.before) T) c.loop-k.k (pos 0) in
-    let h = rw (rest (start c.before.before.before.before.before.before.before) T) at c.next_window-k-in-loop-k.ensures in
+    let v = get_or (drop start T) c.loop-k.k (pos 0) in
+    let h = rw (rest start T) at c.next_window-k-in-loop-k.ensures in
     let there = c.loop-k.invariant.0.1 c.loop-k-test.true in
-    let is = passed _ c.from_place-arg-1.given ∙ ap (λ (x : List ℤ). get_or x c.loop-k.k (pos 0)) (rest (start c.before.before.before.before.before.before.before) T) in
+    let is = passed _ c.from_place-arg-1.given ∙ ap (λ (x : List ℤ). get_or x c.loop-k.k (pos 0)) (rest start T) in
     let made = c.from_place.ensures ∙ ap (from_place a.n c.loop-k.k) is in
-    let put = fill_put T a.n t c.loop-k.k c.loop-k.list c.loop-k.w v c.from_place.result c.loop-k.invariant.1 refl there made (few c.before.before.before) in
+    let put = fill_put T a.n t c.loop-k.k c.loop-k.list c.loop-k.w v c.from_place.result c.loop-k.invariant.1 refl there made few in
     ((h.within, h.window), fill_ahead T a.n t (c.loop-k.k + 1) _ _ _ put h)
 
 pub loop-t-preserved : goal.loop-t-preserved

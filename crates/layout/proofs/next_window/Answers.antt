@@ -37,18 +37,17 @@ offset_bounds-part-k c = omega (arith, c.requires.2, square c.args.n c.requires.
 pub bounds-part-k : goal.bounds-part-k
 bounds-part-k c = omega (arith, c.requires.2, c.loop-k-test.true)
 
--- what the test tells of the place
-told : (c : goal.After-is_absent) → absent (get_or c.args.part.now c.loop-k.k (pos 0)) ≡ c.is_absent.result
-told c =
-    ap absent (sym (passed (get_or c.args.part.now c.loop-k.k (pos 0)) c.is_absent-arg-1.given)) ∙ sym c.is_absent.ensures
-
 pub returns-then-not-is_absent : goal.returns-then-not-is_absent
-returns-then-not-is_absent c = let i = c.loop-k.invariant in
-    record { from = i.0; within = i.1; passed = i.2; window = λ h. told c.before ∙ not-true _ c.if-not-is_absent.true }
+returns-then-not-is_absent c =
+    let told : absent (get_or c.args.part.now c.loop-k.k (pos 0)) ≡ c.is_absent.result = ap absent (sym (passed (get_or c.args.part.now c.loop-k.k (pos 0)) c.is_absent-arg-1.given)) ∙ sym c.is_absent.ensures in
+    let i = c.loop-k.invariant in
+    record { from = i.0; within = i.1; passed = i.2; window = λ h. told ∙ c.if-not-is_absent.true }
 
 pub loop-k-preserved : goal.loop-k-preserved
-loop-k-preserved c = let i = c.loop-k.invariant in
-    (omega (arith, i.0), omega (arith, c.loop-k-test.true), bare-more c.args.part.now c.args.from c.loop-k.k i.2 (told c.before ∙ not-false _ c.if-not-is_absent.false))
+loop-k-preserved c =
+    let told : absent (get_or c.args.part.now c.loop-k.k (pos 0)) ≡ c.is_absent.result = ap absent (sym (passed (get_or c.args.part.now c.loop-k.k (pos 0)) c.is_absent-arg-1.given)) ∙ sym c.is_absent.ensures in
+    let i = c.loop-k.invariant in
+    (omega (arith, i.0), omega (arith, c.loop-k-test.true), bare-more c.args.part.now c.args.from c.loop-k.k i.2 (told ∙ c.if-not-is_absent.false))
 
 pub returns : goal.returns
 returns c = let i = c.loop-k.invariant in record { from = i.0; within = i.1; passed = i.2; window = λ h. absurd (omega (arith, c.loop-k-test.false)) }

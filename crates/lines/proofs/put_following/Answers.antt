@@ -38,7 +38,7 @@ pub put_byte-requires : goal.put_byte-requires
 put_byte-requires c = omega (arith, c.loop-k.invariant.0, c.loop-k.invariant.1, c.requires)
 
 pub shape_of-out : goal.shape_of-out
-shape_of-out c = let a = c.args in c.put_byte.auto.schedule ∙ part_length a.out.now a.at _ _ _ _ c.loop-k.invariant.2
+shape_of-out c = let a = c.args in c.put_byte.auto.out ∙ part_length a.out.now a.at _ _ _ _ c.loop-k.invariant.2
 
 pub returns : goal.returns
 returns c = let a = c.args in

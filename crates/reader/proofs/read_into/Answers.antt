@@ -9,18 +9,18 @@ use mathlib.Core.Path.{◌≡◌, sym, ap, subst, ◌∙◌}
 use borrow.Author.Rules.{rules}
 use Rattle.reader.proofs.read_into.Goals as goal
 
--- n, m and V as they were read
-head : (c : goal.In-Counts-2) → counts_at c.args.file.now 0 ≡ got (counts c.in-Counts.n c.in-Counts.m c.in-Counts.positions) c.in-Counts.next
-head c = sym c.read_head.ensures ∙ ap head_part c.in-Counts.is
-
 pub read_rest-requires : goal.read_rest-requires
-read_rest-requires c = let k = counted _ _ _ _ (head c.before.before.before) in (k.few_events, k.some_modes, k.few_modes)
+read_rest-requires c =
+    let head : counts_at c.args.file.now 0 ≡ got (counts c.in-Counts.n c.in-Counts.m c.in-Counts.positions) c.in-Counts.next = sym c.read_head.ensures ∙ ap head_part c.in-Counts.is in
+    let k = counted _ _ _ _ head in (k.few_events, k.some_modes, k.few_modes)
 
 pub returns-in-Counts : goal.returns-in-Counts
 unfolding sheet_in
-returns-in-Counts c = let a = c.args in
+returns-in-Counts c =
+    let head : counts_at c.args.file.now 0 ≡ got (counts c.in-Counts.n c.in-Counts.m c.in-Counts.positions) c.in-Counts.next = sym c.read_head.ensures ∙ ap head_part c.in-Counts.is in
+    let a = c.args in
     subst (λ (x : Part Sheet). Fills x a.tables.now a.schedule.now c.read_rest.result c.read_rest.new.1.1.1.1.1.0 c.read_rest.new.1.1.1.1.1.1.0)
-    (sym (then_value _ _ _ _ (head c.before.before.before.before.before.before.before))) c.read_rest.ensures
+    (sym (then_value _ _ _ _ head)) c.read_rest.ensures
 
 pub returns-in-Refused : goal.returns-in-Refused
 unfolding sheet_in

@@ -22,9 +22,10 @@ use Rattle.reader.proofs.read_schedule.Goals as goal
 mode_is : (file : List ℕ) (m p : ℕ) → 1 ≤ m → tested (λ t. ltb t m) 5 (number_at file p) ≡ tested (between 0 (m - 1)) 5 (number_at file p)
 mode_is file m p h = sym (tested_same (between 0 (m - 1)) (λ t. ltb t m) (λ v. below v m h) 5 (number_at file p))
 
-here : (c : goal.In-Value-2) → let a = c.args in
-    tested (λ t. ltb t a.m) 5 (number_at a.file.now c.loop-h.p) ≡ Value c.in-Value.value c.in-Value.at c.in-Value.next
-here c = mode_is c.args.file.now c.args.m c.loop-h.p c.requires.0 ∙ sym c.number_within.ensures ∙ c.in-Value.is
+-- FIXME
+here : (c : goal.In-Value-2) → let l = c.before.before.before.before in let a = l.before.before.before.args in
+    tested (λ t. ltb t a.m) 5 (number_at a.file.now l.loop.p) ≡ Value c.value.given.0.0 c.value.given.0.1.0 c.value.given.0.1.1.0
+here c = let l = c.before.before.before.before in let s = l.before.before.before in mode_is s.args.file.now s.args.m l.loop.p s.requires.0 ∙ sym c.before.before.number-within.ensures ∙ c.value.given.1
 
 pub loop-h-init : goal.loop-h-init
 loop-h-init c = let a = c.args in

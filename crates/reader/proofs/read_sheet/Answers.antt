@@ -16,42 +16,56 @@ use borrow.Author.Tests.{not-true, not-false}
 use borrow.Author.Rules.{rules}
 use Rattle.reader.proofs.read_sheet.Goals as goal
 
--- the sheet that the first walk found
-found : (c : goal.In-Done-2) → Filled (sheet_in c.args.file.now) c.in-Done.n c.in-Done.m c.in-Done.positions
-found c = filled _ _ _ _ _ _ _ _ _ c.in-Done.is c.read_into-judged.ensures
-
+-- FIXME
 -- its size against the buffers', as the code has it
-room : (c : goal.In-Done-2) → let f = found c in let a = c.args in
+room : (c : goal.In-Done-2) → let f = found c in let g = c.judged.given.0 in let a = c.before.before.before.before.before.before.before.before.before.args in
     (leb (places f.s.n f.s.m) (length a.tables.now) && leb f.s.positions (length a.schedule.now))
-    ≡ (leb (places c.in-Done.n c.in-Done.m) (length a.tables.now) && leb c.in-Done.positions (length a.schedule.now))
+    ≡ (leb (places g.0 g.1.0) (length a.tables.now) && leb g.1.1.0 (length a.schedule.now))
 room c = let f = found c in rw (f.n_is, f.m_is, f.positions_is)
-
-small : (c : goal.In-Done-2) → let n = c.in-Done.n in let m = c.in-Done.m in (n * n ≤ 144) × (m ≤ 8) × (4 * m * (n * n) ≤ 4608)
-small c =
-    let f = found c in
-    let k = (sheeted _ f.s f.next f.is).count in
-    let n : c.in-Done.n ≤ 12 = subst (λ (x : ℕ). x ≤ 12) f.n_is k.few_events in
-    let m : c.in-Done.m ≤ 8 = subst (λ (x : ℕ). x ≤ 8) f.m_is k.few_modes in
-    (square c.in-Done.n n, m, few_places c.in-Done.n c.in-Done.m n m)
 
 pub returns-in_default : goal.returns-in_default
 returns-in_default c = let a = c.args in
     reads_refused a.file.now a.tables.now a.schedule.now _ _ c.in_default.is (unfilled _ _ _ _ _ _ _ c.in_default.is c.read_into-judged.ensures)
 
 pub overflow_mul-places : goal.overflow_mul-places
-overflow_mul-places c = let z = small c.before in omega (arith, z.0, z.1, z.2)
+overflow_mul-places c =
+    let found : Filled (sheet_in c.args.file.now) c.in-Done.n c.in-Done.m c.in-Done.positions = filled _ _ _ _ _ _ _ _ _ c.in-Done.is c.read_into-judged.ensures in
+    let small : (c.in-Done.n * c.in-Done.n ≤ 144) × (c.in-Done.m ≤ 8) × (4 * c.in-Done.m * (c.in-Done.n * c.in-Done.n) ≤ 4608) = let f = found in
+    let k = (sheeted _ f.s f.next f.is).count in
+    let n : c.in-Done.n ≤ 12 = subst (λ (x : ℕ). x ≤ 12) f.n_is k.few_events in
+    let m : c.in-Done.m ≤ 8 = subst (λ (x : ℕ). x ≤ 8) f.m_is k.few_modes in
+    (square c.in-Done.n n, m, few_places c.in-Done.n c.in-Done.m n m) in
+    let z = small in omega (arith, z.0, z.1, z.2)
 
 pub overflow_mul-places-2 : goal.overflow_mul-places-2
-overflow_mul-places-2 c = let z = small c.before in omega (arith, z.0, z.1, z.2)
+overflow_mul-places-2 c =
+    let found : Filled (sheet_in c.args.file.now) c.in-Done.n c.in-Done.m c.in-Done.positions = filled _ _ _ _ _ _ _ _ _ c.in-Done.is c.read_into-judged.ensures in
+    let small : (c.in-Done.n * c.in-Done.n ≤ 144) × (c.in-Done.m ≤ 8) × (4 * c.in-Done.m * (c.in-Done.n * c.in-Done.n) ≤ 4608) = let f = found in
+    let k = (sheeted _ f.s f.next f.is).count in
+    let n : c.in-Done.n ≤ 12 = subst (λ (x : ℕ). x ≤ 12) f.n_is k.few_events in
+    let m : c.in-Done.m ≤ 8 = subst (λ (x : ℕ). x ≤ 8) f.m_is k.few_modes in
+    (square c.in-Done.n n, m, few_places c.in-Done.n c.in-Done.m n m) in
+    let z = small in omega (arith, z.0, z.1, z.2)
 
 pub overflow_mul-places-3 : goal.overflow_mul-places-3
-overflow_mul-places-3 c = let z = small c.before in omega (arith, z.0, z.1, z.2)
+overflow_mul-places-3 c =
+    let found : Filled (sheet_in c.args.file.now) c.in-Done.n c.in-Done.m c.in-Done.positions = filled _ _ _ _ _ _ _ _ _ c.in-Done.is c.read_into-judged.ensures in
+    let small : (c.in-Done.n * c.in-Done.n ≤ 144) × (c.in-Done.m ≤ 8) × (4 * c.in-Done.m * (c.in-Done.n * c.in-Done.n) ≤ 4608) = let f = found in
+    let k = (sheeted _ f.s f.next f.is).count in
+    let n : c.in-Done.n ≤ 12 = subst (λ (x : ℕ). x ≤ 12) f.n_is k.few_events in
+    let m : c.in-Done.m ≤ 8 = subst (λ (x : ℕ). x ≤ 8) f.m_is k.few_modes in
+    (square c.in-Done.n n, m, few_places c.in-Done.n c.in-Done.m n m) in
+    let z = small in omega (arith, z.0, z.1, z.2)
 
 pub returns-then-not-is_roomy : goal.returns-then-not-is_roomy
-returns-then-not-is_roomy c = let f = found c.before.before.before.before in let a = c.args in
-    reads_short a.file.now a.tables.now a.schedule.now f.s f.next f.is _ (ap read.Refused c.bad.ensures) (room c.before.before.before.before ∙ sym c.is_roomy.ensures ∙ not-true _ c.if-not-is_roomy.true)
+returns-then-not-is_roomy c =
+    let found : Filled (sheet_in c.args.file.now) c.in-Done.n c.in-Done.m c.in-Done.positions = filled _ _ _ _ _ _ _ _ _ c.in-Done.is c.read_into-judged.ensures in
+    let f = found in let a = c.args in
+    reads_short a.file.now a.tables.now a.schedule.now f.s f.next f.is _ (ap read.Refused c.bad.ensures) (room c.before.before.before.before ∙ sym c.is_roomy.ensures ∙ c.if-not-is_roomy.true)
 
 pub returns : goal.returns
-returns c = let f = found c.before.before.before.before.before.before.before.before.before in
+returns c =
+    let found : Filled (sheet_in c.args.file.now) c.in-Done.n c.in-Done.m c.in-Done.positions = filled _ _ _ _ _ _ _ _ _ c.in-Done.is c.read_into-judged.ensures in
+    let f = found in
     let a = c.args in
-    reads_done a.file.now a.tables.now a.schedule.now f.s f.next f.is _ _ _ (room c.before.before.before.before.before.before.before.before.before ∙ sym c.is_roomy.ensures ∙ not-false _ c.if-not-is_roomy.false) c.read_into.ensures
+    reads_done a.file.now a.tables.now a.schedule.now f.s f.next f.is _ _ _ (room c.before.before.before.before.before.before.before.before.before ∙ sym c.is_roomy.ensures ∙ c.if-not-is_roomy.false) c.read_into.ensures

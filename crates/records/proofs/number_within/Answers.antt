@@ -13,8 +13,8 @@ returns-in_default c = let a = c.args in
 
 pub returns-then-not-is_between : goal.returns-then-not-is_between
 returns-then-not-is_between c = let a = c.args in
-    rw c.bad.ensures (sym (tested_no (between a.least a.most) a.number (number_at a.file.now a.at) c.in-Value.value c.in-Value.began c.in-Value.next (sym c.number_at-read.ensures ∙ c.in-Value.is) (sym c.is_between.ensures ∙ not-true _ c.if-not-is_between.true)))
+    rw c.bad.ensures (sym (tested_no (between a.least a.most) a.number (number_at a.file.now a.at) c.in-Value.value c.in-Value.began c.in-Value.next (sym c.number_at-read.ensures ∙ c.in-Value.is) (sym c.is_between.ensures ∙ c.if-not-is_between.true)))
 
 pub returns : goal.returns
 returns c = let a = c.args in
-    sym (tested_yes (between a.least a.most) a.number (number_at a.file.now a.at) c.in-Value.value c.in-Value.next (sym c.number_at-read.ensures ∙ c.in-Value.is) (sym c.is_between.ensures ∙ not-false _ c.if-not-is_between.false))
+    sym (tested_yes (between a.least a.most) a.number (number_at a.file.now a.at) c.in-Value.value c.in-Value.next (sym c.number_at-read.ensures ∙ c.in-Value.is) (sym c.is_between.ensures ∙ c.if-not-is_between.false))

@@ -32,14 +32,12 @@ module _ (start low p : ℕ) (v : ℤ) (next : ℕ) where
   unfolding rising
   rising-no h = rw (lt-leb low p h)
 
--- the number as it was read, and what is left where its limit is kept
-code_at : (c : goal.In-Value) → number_at c.args.file.now c.args.at ≡ Value c.in-Value.code c.in-Value.fourth c.in-Value.next
-code_at c = sym c.number_at-read.ensures ∙ c.in-Value.is
-
-left : (c : goal.Else-code-gt-MOST_CODE) → let a = c.args in
-    value_at a.file.now a.start a.low a.place a.at ≡ rising a.start a.low a.place (decoded c.in-Value.code) c.in-Value.next
+-- FIXME
+left : (c : goal.Else-code-gt-MOST_CODE) → let k = c.before in let a = k.before.before.before.before.before.args in
+    value_at a.file.now a.start a.low a.place a.at ≡ rising a.start a.low a.place (decoded k.before.read.given.0.0) k.before.read.given.0.1.1.0
 unfolding value_at
-left c = after_value _ _ _ _ (tested_yes (λ u. in_limit (decoded u)) 6 _ _ _ (code_at c.before) (in-limit c.in-Value.code c.if-code-gt-MOST_CODE.false))
+left c = let k = c.before in
+    after_value _ _ _ _ (tested_yes (λ u. in_limit (decoded u)) 6 _ _ _ (code_at k) (in-limit k.before.read.given.0.0 c.if1.false))
 
 pub returns-in_default : goal.returns-in_default
 unfolding value_at
@@ -48,7 +46,9 @@ returns-in_default c = ap refused (refused_is _ _ _ c.refusal.ensures c.in_defau
 
 pub returns-then-code-gt-MOST_CODE : goal.returns-then-code-gt-MOST_CODE
 unfolding value_at
-returns-then-code-gt-MOST_CODE c = rw c.bad.ensures (sym (after_refused _ _ _ (tested_no (λ u. in_limit (decoded u)) 6 _ _ _ _ (code_at c.before.before) (past-limit c.in-Value.code c.if-code-gt-MOST_CODE.true))))
+returns-then-code-gt-MOST_CODE c =
+    let code_at : number_at c.args.file.now c.args.at ≡ Value c.in-Value.code c.in-Value.fourth c.in-Value.next = sym c.number_at-read.ensures ∙ c.in-Value.is in
+    rw c.bad.ensures (sym (after_refused _ _ _ (tested_no (λ u. in_limit (decoded u)) 6 _ _ _ _ code_at (past-limit c.in-Value.code c.if-code-gt-MOST_CODE.true))))
 
 pub returns-then-place-low : goal.returns-then-place-low
 returns-then-place-low c = rw c.bad-then-place-low.ensures (sym (left c.before.before ∙ rising-no _ _ _ _ _ c.if-place-low.true))

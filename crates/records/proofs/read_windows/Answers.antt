@@ -16,10 +16,11 @@ use lib.IntN.{ℤ}
 use borrow.Author.Rules.{rules}
 use Rattle.records.proofs.read_windows.Goals as goal
 
+-- FIXME
 -- the record of this turn
-here : (c : goal.In-Placed-2) → let a = c.args in
-    record_at a.file.now a.n c.loop-k.low c.loop-k.p ≡ got (placed c.in-Placed.place (decoded c.in-Placed.code)) c.in-Placed.next
-here c = sym c.read_window.ensures ∙ ap found_part c.in-Placed.is
+here : (c : goal.In-Placed-2) → let l = c.before.before.before.before in let a = l.before.before.args in
+    record_at a.file.now a.n l.loop.low l.loop.p ≡ got (placed c.place.given.0.0 (decoded c.place.given.0.1.0)) c.place.given.0.1.1.0
+here c = sym c.before.before.read-window.ensures ∙ ap found_part c.place.given.1
 
 pub loop-k-init : goal.loop-k-init
 loop-k-init c = let a = c.args in

@@ -10,22 +10,26 @@ use Rattle.refuting.proofs.Present.{named_place, present_named, edge_same}
 use borrow.Author.Rules.{rules}
 use Rattle.refuting.proofs.edge_for.Goals as goal
 
-abbrev S : goal.Start → Sheet
-S c = let a = c.args in sheet_of a.line a.tables.now a.schedule.now
-
-placed : (c : goal.Start) → let a = c.args.arc in NamesPlace (S c) a.kind a.position a.to a.from
-placed c = let a = c.args.arc in named_place (S c) c.requires.0.admitted a (present_named (S c) a c.requires.1)
-
 pub limit_of-value-requires : goal.limit_of-value-requires
-limit_of-value-requires c = (c.requires.0, present_named (S c.before) c.args.arc c.requires.1)
+limit_of-value-requires c =
+    let S : Sheet = let a = c.args in sheet_of a.line a.tables.now a.schedule.now in
+    (c.requires.0, present_named S c.args.arc c.requires.1)
 
 pub overflow_sub-arc : goal.overflow_sub-arc
-overflow_sub-arc c = (placed c.before.before.before).from_first
+overflow_sub-arc c =
+    let S : Sheet = let a = c.args in sheet_of a.line a.tables.now a.schedule.now in
+    let placed : NamesPlace S c.args.arc.kind c.args.arc.position c.args.arc.to c.args.arc.from = let a = c.args.arc in named_place S c.requires.0.admitted a (present_named S a c.requires.1) in
+    placed.from_first
 
 pub edge_at-requires : goal.edge_at-requires
-edge_at-requires c = let t = placed c.before.before.before in let z = (accepted (S c.before.before.before) t.admitted).size in
+edge_at-requires c =
+    let S : Sheet = let a = c.args in sheet_of a.line a.tables.now a.schedule.now in
+    let placed : NamesPlace S c.args.arc.kind c.args.arc.position c.args.arc.to c.args.arc.from = let a = c.args.arc in named_place S c.requires.0.admitted a (present_named S a c.requires.1) in
+    let t = placed in let z = (accepted S t.admitted).size in
     (z.few_events, z.few_positions, omega (arith, t.from_first, t.to_last), c.requires.0.p_small, c.requires.0.q_small, t.to_event.0, t.from_event.0)
 
 pub returns : goal.returns
-returns c = let l = c.limit_of-value in let a = c.args in
-    c.edge_at.ensures ∙ edge_same (S c.before.before.before.before) a.line.p a.line.q a.arc _ (passed l.result l.type-inv ∙ l.ensures)
+returns c =
+    let S : Sheet = let a = c.args in sheet_of a.line a.tables.now a.schedule.now in
+    let l = c.limit_of-value in let a = c.args in
+    c.edge_at.ensures ∙ edge_same S a.line.p a.line.q a.arc _ (passed l.result l.type-inv ∙ l.ensures)

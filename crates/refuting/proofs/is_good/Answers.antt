@@ -12,34 +12,37 @@ use Rattle.refuting.proofs.Following.{good_not, good_first, good_next}
 use borrow.Author.Rules.{rules}
 use Rattle.refuting.proofs.is_good.Goals as goal
 
-abbrev S : goal.Start → Sheet
-S c = let a = c.args in sheet_of a.line a.tables.now a.schedule.now
-
--- what the test of the window is
-tested : (c : goal.After-is_window) → present (S c.before.before.before.before) (four_at c.args.arcs.now c.args.k) ≡ c.is_window.result
-tested c = ap (present (S c.before.before.before.before)) (sym c.four_at-arc.ensures) ∙ sym c.is_window.ensures
-
-here : (c : goal.Else-not-is_window) → present (S c.before.before.before.before.before) (four_at c.args.arcs.now c.args.k) ≡ true
-here c = tested c.before ∙ not-false _ c.if-not-is_window.false
-
 pub returns-then-not-is_window : goal.returns-then-not-is_window
-returns-then-not-is_window c = good_not (S c.before.before.before.before.before) c.args.arcs.now c.args.k (tested c.before ∙ not-true _ c.if-not-is_window.true)
+returns-then-not-is_window c =
+    let S : Sheet = let a = c.args in sheet_of a.line a.tables.now a.schedule.now in
+    let tested : present S (four_at c.args.arcs.now c.args.k) ≡ c.is_window.result = ap (present S) (sym c.four_at-arc.ensures) ∙ sym c.is_window.ensures in
+    good_not S c.args.arcs.now c.args.k (tested ∙ c.if-not-is_window.true)
 
 pub returns-then-k-eq0 : goal.returns-then-k-eq0
-returns-then-k-eq0 c = good_first (S c.before.before.before.before.before.before) c.args.arcs.now c.args.k (here c.before) c.if-k-eq0.true
+returns-then-k-eq0 c =
+    let S : Sheet = let a = c.args in sheet_of a.line a.tables.now a.schedule.now in
+    let tested : present S (four_at c.args.arcs.now c.args.k) ≡ c.is_window.result = ap (present S) (sym c.four_at-arc.ensures) ∙ sym c.is_window.ensures in
+    let here : present S (four_at c.args.arcs.now c.args.k) ≡ true = tested ∙ c.if-not-is_window.false in
+    good_first S c.args.arcs.now c.args.k here c.if-k-eq0.true
 
 pub overflow_sub-k : goal.overflow_sub-k
 overflow_sub-k c = let some = c.if-k-eq0.false in omega arith
 
 pub edge_in-before-requires : goal.edge_in-before-requires
-edge_in-before-requires c = let some = c.if-k-eq0.false in let a = c.args in
+edge_in-before-requires c =
+    let S : Sheet = let a = c.args in sheet_of a.line a.tables.now a.schedule.now in
+    let some = c.if-k-eq0.false in let a = c.args in
     let g = c.requires.2 (a.k - 1) (omega arith) in
-    (c.requires.0, omega (arith, c.requires.1), step_present (S c.before.before.before.before.before.before) a.arcs.now (a.k - 1) g.step g.stands g.present)
+    (c.requires.0, omega (arith, c.requires.1), step_present S a.arcs.now (a.k - 1) g.step g.stands g.present)
 
 pub edge_for-here-requires : goal.edge_for-here-requires
-edge_for-here-requires c = (c.requires.0, sym c.is_window.ensures ∙ not-false _ c.if-not-is_window.false)
+edge_for-here-requires c = (c.requires.0, sym c.is_window.ensures ∙ c.if-not-is_window.false)
 
 pub returns : goal.returns
-returns c = let a = c.args in let some = c.if-k-eq0.false in
-    good_next (S c.before.before.before.before.before.before.before.before.before.before) a.arcs.now a.line.p a.line.q a.k some (c.requires.2 (a.k - 1) (omega arith)) (here c.before.before.before.before.before) c.edge_in-before.result c.edge_for-here.result
-    c.edge_in-before.ensures (c.edge_for-here.ensures ∙ ap (edge_for (S c.before.before.before.before.before.before.before.before.before.before) a.line.p a.line.q) c.four_at-arc.ensures)
+returns c =
+    let S : Sheet = let a = c.args in sheet_of a.line a.tables.now a.schedule.now in
+    let tested : present S (four_at c.args.arcs.now c.args.k) ≡ c.is_window.result = ap (present S) (sym c.four_at-arc.ensures) ∙ sym c.is_window.ensures in
+    let here : present S (four_at c.args.arcs.now c.args.k) ≡ true = tested ∙ c.if-not-is_window.false in
+    let a = c.args in let some = c.if-k-eq0.false in
+    good_next S a.arcs.now a.line.p a.line.q a.k some (c.requires.2 (a.k - 1) (omega arith)) here c.edge_in-before.result c.edge_for-here.result
+    c.edge_in-before.ensures (c.edge_for-here.ensures ∙ ap (edge_for S a.line.p a.line.q) c.four_at-arc.ensures)

@@ -8,14 +8,15 @@ use Rattle.refuting.proofs.Present.{unnamed, present_is}
 use borrow.Author.Rules.{rules}
 use Rattle.refuting.proofs.is_window.Goals as goal
 
-abbrev S : goal.Start → Sheet
-S c = let a = c.args in sheet_of a.line a.tables.now a.schedule.now
-
 pub returns-then-not-is_named : goal.returns-then-not-is_named
-returns-then-not-is_named c = unnamed (S c.before.before.before) c.args.arc _ c.is_named.ensures (not-true _ c.if-not-is_named.true)
+returns-then-not-is_named c =
+    let S : Sheet = let a = c.args in sheet_of a.line a.tables.now a.schedule.now in
+    unnamed S c.args.arc _ c.is_named.ensures (c.if-not-is_named.true)
 
 pub limit_of-value-requires : goal.limit_of-value-requires
-limit_of-value-requires c = (c.requires, sym c.is_named.ensures ∙ not-false _ c.if-not-is_named.false)
+limit_of-value-requires c = (c.requires, sym c.is_named.ensures ∙ c.if-not-is_named.false)
 
 pub returns : goal.returns
-returns c = let l = c.limit_of-value in present_is (S c.before.before.before.before.before) c.args.arc _ _ c.is_named.ensures (not-false _ c.if-not-is_named.false) (c.is_absent.ensures ∙ ap absent (passed l.result l.type-inv ∙ l.ensures))
+returns c =
+    let S : Sheet = let a = c.args in sheet_of a.line a.tables.now a.schedule.now in
+    let l = c.limit_of-value in present_is S c.args.arc _ _ c.is_named.ensures (c.if-not-is_named.false) (c.is_absent.ensures ∙ ap absent (passed l.result l.type-inv ∙ l.ensures))

@@ -17,18 +17,16 @@ use Rattle.writer.proofs.count_windows.Goals as goal
 start : (x : ℕ) {y : ℕ} → x ≡ y → 0 + x ≡ y
 start x e = omega arith
 
--- what `is_absent` says of this turn's value
-here : (c : goal.After-is_absent) → c.is_absent.result ≡ absent (get_or c.args.part.now c.loop-k.k (pos 0))
-here c = c.is_absent.ensures ∙ ap absent (passed (get_or c.args.part.now c.loop-k.k (pos 0)) c.is_absent-arg-1.given)
-
 pub loop-k-init : goal.loop-k-init
 loop-k-init c = let a = c.args in (omega arith, c.requires, omega arith, start _ (ap (λ (j : ℕ). length (placed_of 0 (take j a.part.now))) (sub-zero a.size)))
 
 pub loop-k-preserved : goal.loop-k-preserved
-loop-k-preserved c = let a = c.args in
+loop-k-preserved c =
+    let here : c.is_absent.result ≡ absent (get_or c.args.part.now c.loop-k.k (pos 0)) = c.is_absent.ensures ∙ ap absent (passed (get_or c.args.part.now c.loop-k.k (pos 0)) c.is_absent-arg-1.given) in
+    let a = c.args in
     ⊎_elim
-    (λ w. let q = count_present a.part.now a.size c.loop-k.k (omega arith) (omega arith) (sym (here c.before) ∙ not-true _ w.0.taken) in (omega arith, omega arith, omega arith, omega (arith, q, c.loop-k.invariant.3)))
-    (λ w. let q = count_absent a.part.now a.size c.loop-k.k (omega arith) (omega arith) (sym (here c.before) ∙ not-false _ w.0.left) in (omega arith, omega arith, omega arith, omega (arith, q, c.loop-k.invariant.3)))
+    (λ w. let q = count_present a.part.now a.size c.loop-k.k (omega arith) (omega arith) (sym here ∙ not-true _ w.0.taken) in (omega arith, omega arith, omega arith, omega (arith, q, c.loop-k.invariant.3)))
+    (λ w. let q = count_absent a.part.now a.size c.loop-k.k (omega arith) (omega arith) (sym here ∙ not-false _ w.0.left) in (omega arith, omega arith, omega arith, omega (arith, q, c.loop-k.invariant.3)))
     c.if-not-is_absent.branch
 
 pub returns : goal.returns

@@ -17,17 +17,6 @@ use Rattle.writer.proofs.write_modes.Goals as goal
 nothing : (k : ℕ) → 0 * k ≡ 0
 nothing k = omega arith
 
--- a mode's part lies within the tables
-fit : (c : goal.In-loop-t) → let a = c.args in let t = c.loop-t.t in (t * (4 * (a.n * a.n)) + 4 * (a.n * a.n) ≤ length a.tables.now) × (t * (4 * (a.n * a.n)) ≤ 4608)
-fit c =
-    let k = 4 * (c.args.n * c.args.n) in (
-      omega (arith, mul-le-mul_right k c.loop-t-test.true, add-mul c.loop-t.t 1 k, c.requires.3, suc-is c.loop-t.t k),
-      mul-le-mul {n₁ = c.loop-t.t} {n₂ = 8} (omega (arith, c.loop-t-test.true, c.requires.2)) (few c.args.n c.requires.1),
-    )
-  where
-    suc-is : (t k : ℕ) → suc t * k ≡ t * k + k
-    suc-is t k = suc-mul t k
-
 pub overflow_mul-size : goal.overflow_mul-size
 overflow_mul-size c = omega (arith, few c.args.n c.requires.1)
 
@@ -43,26 +32,66 @@ loop-t-init c = let a = c.args in (
 )
 
 pub overflow_mul-start : goal.overflow_mul-start
-overflow_mul-start c = omega (arith, (fit c).1)
+overflow_mul-start c =
+    let fit : (c.loop-t.t * (4 * (c.args.n * c.args.n)) + 4 * (c.args.n * c.args.n) ≤ length c.args.tables.now) × (c.loop-t.t * (4 * (c.args.n * c.args.n)) ≤ 4608) = let k = 4 * (c.args.n * c.args.n) in (
+      omega (arith, mul-le-mul_right k c.loop-t-test.true, add-mul c.loop-t.t 1 k, c.requires.3, suc-is c.loop-t.t k),
+      mul-le-mul {n₁ = c.loop-t.t} {n₂ = 8} (omega (arith, c.loop-t-test.true, c.requires.2)) (few c.args.n c.requires.1),
+    )
+  where
+    suc-is : (t k : ℕ) → suc t * k ≡ t * k + k
+    suc-is t k = suc-mul t k in
+    omega (arith, fit.1)
 
 pub offset_bounds-tables-start : goal.offset_bounds-tables-start
-offset_bounds-tables-start c = let f = fit c.before in omega (arith, f.0, f.1)
+offset_bounds-tables-start c =
+    let fit : (c.loop-t.t * (4 * (c.args.n * c.args.n)) + 4 * (c.args.n * c.args.n) ≤ length c.args.tables.now) × (c.loop-t.t * (4 * (c.args.n * c.args.n)) ≤ 4608) = let k = 4 * (c.args.n * c.args.n) in (
+      omega (arith, mul-le-mul_right k c.loop-t-test.true, add-mul c.loop-t.t 1 k, c.requires.3, suc-is c.loop-t.t k),
+      mul-le-mul {n₁ = c.loop-t.t} {n₂ = 8} (omega (arith, c.loop-t-test.true, c.requires.2)) (few c.args.n c.requires.1),
+    )
+  where
+    suc-is : (t k : ℕ) → suc t * k ≡ t * k + k
+    suc-is t k = suc-mul t k in
+    let f = fit in omega (arith, f.0, f.1)
 
 pub slice_bounds-write_mode-count : goal.slice_bounds-write_mode-count
-slice_bounds-write_mode-count c = let f = fit c.before in omega (arith, f.0, f.1)
+slice_bounds-write_mode-count c =
+    let fit : (c.loop-t.t * (4 * (c.args.n * c.args.n)) + 4 * (c.args.n * c.args.n) ≤ length c.args.tables.now) × (c.loop-t.t * (4 * (c.args.n * c.args.n)) ≤ 4608) = let k = 4 * (c.args.n * c.args.n) in (
+      omega (arith, mul-le-mul_right k c.loop-t-test.true, add-mul c.loop-t.t 1 k, c.requires.3, suc-is c.loop-t.t k),
+      mul-le-mul {n₁ = c.loop-t.t} {n₂ = 8} (omega (arith, c.loop-t-test.true, c.requires.2)) (few c.args.n c.requires.1),
+    )
+  where
+    suc-is : (t k : ℕ) → suc t * k ≡ t * k + k
+    suc-is t k = suc-mul t k in
+    let f = fit in omega (arith, f.0, f.1)
 
 pub write_mode-p-requires : goal.write_mode-p-requires
-write_mode-p-requires c = let f = fit c.before.before in
+write_mode-p-requires c =
+    let fit : (c.loop-t.t * (4 * (c.args.n * c.args.n)) + 4 * (c.args.n * c.args.n) ≤ length c.args.tables.now) × (c.loop-t.t * (4 * (c.args.n * c.args.n)) ≤ 4608) = let k = 4 * (c.args.n * c.args.n) in (
+      omega (arith, mul-le-mul_right k c.loop-t-test.true, add-mul c.loop-t.t 1 k, c.requires.3, suc-is c.loop-t.t k),
+      mul-le-mul {n₁ = c.loop-t.t} {n₂ = 8} (omega (arith, c.loop-t-test.true, c.requires.2)) (few c.args.n c.requires.1),
+    )
+  where
+    suc-is : (t k : ℕ) → suc t * k ≡ t * k + k
+    suc-is t k = suc-mul t k in
+    let f = fit in
     let b = c.loop-t.t * (4 * (c.args.n * c.args.n)) in
     (c.requires.0, c.requires.1, rw (rest_all b c.args.tables.now) (omega (arith, length-drop b c.args.tables.now, f.0)), omega (arith, c.loop-t.invariant.2, c.loop-t.invariant.0, c.requires.2, c.requires.4))
 
 pub loop-t-preserved : goal.loop-t-preserved
-loop-t-preserved c = let a = c.args in
+loop-t-preserved c =
+    let fit : (c.loop-t.t * (4 * (c.args.n * c.args.n)) + 4 * (c.args.n * c.args.n) ≤ length c.args.tables.now) × (c.loop-t.t * (4 * (c.args.n * c.args.n)) ≤ 4608) = let k = 4 * (c.args.n * c.args.n) in (
+      omega (arith, mul-le-mul_right k c.loop-t-test.true, add-mul c.loop-t.t 1 k, c.requires.3, suc-is c.loop-t.t k),
+      mul-le-mul {n₁ = c.loop-t.t} {n₂ = 8} (omega (arith, c.loop-t-test.true, c.requires.2)) (few c.args.n c.requires.1),
+    )
+  where
+    suc-is : (t k : ℕ) → suc t * k ≡ t * k + k
+    suc-is t k = suc-mul t k in
+    let a = c.args in
     let b = c.loop-t.t * (4 * (a.n * a.n)) in
     let e : state c.write_mode-p.result c.write_mode-p.new.0 ≡ run c.loop-t.out c.loop-t.p (mode_numbers a.n (take (4 * (a.n * a.n)) (drop b a.tables.now))) =
     c.write_mode-p.ensures ∙ ap (λ (x : List ℤ). run c.loop-t.out c.loop-t.p (mode_numbers a.n (take (4 * (a.n * a.n)) x))) (rest_all b a.tables.now) in
     let z : length (take (4 * (a.n * a.n)) (drop b a.tables.now)) ≤ 576 =
-    omega (arith, length-take-le (4 * (a.n * a.n)) (drop b a.tables.now) (omega (arith, length-drop b a.tables.now, (fit c.before.before.before.before.before).0)), few a.n c.requires.1) in (
+    omega (arith, length-take-le (4 * (a.n * a.n)) (drop b a.tables.now) (omega (arith, length-drop b a.tables.now, fit.0)), few a.n c.requires.1) in (
       omega (arith, c.loop-t-test.true),
       c.write_mode-p.auto.out ∙ c.loop-t.invariant.1,
       omega (arith, mode_short _ _ _ _ _ _ z e, c.loop-t.invariant.2),

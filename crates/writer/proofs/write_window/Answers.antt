@@ -7,16 +7,6 @@ use native.Mathlib.Omega.{arith}
 use borrow.Author.Rules.{rules}
 use Rattle.writer.proofs.write_window.Goals as goal
 
--- the place after each number
-first : (c : goal.After-write_number-a) → c.write_number-a.result ≤ c.args.at + 4
-first c = let a = c.args in run_few a.out.now a.at _ _ _ c.write_number-a.ensures
-
-second : (c : goal.After-write_number-b) → c.write_number-b.result ≤ c.write_number-a.result + 4
-second c = run_few _ _ _ _ _ c.write_number-b.ensures
-
-third : (c : goal.After-write_number-c) → c.write_number-c.result ≤ c.write_number-b.result + 4
-third c = run_few _ _ _ _ _ c.write_number-c.ensures
-
 pub overflow_mul-n : goal.overflow_mul-n
 overflow_mul-n c = omega (arith, square c.args.n c.requires.1)
 
@@ -24,16 +14,25 @@ pub overflow_add-place : goal.overflow_add-place
 overflow_add-place c = omega (arith, mod-lt (c.args.place / c.args.n) c.requires.0, c.requires.1)
 
 pub write_number-b-requires : goal.write_number-b-requires
-write_number-b-requires c = omega (arith, first c.before.before.before, c.requires.2)
+write_number-b-requires c =
+    let first : c.write_number-a.result ≤ c.args.at + 4 = let a = c.args in run_few a.out.now a.at _ _ _ c.write_number-a.ensures in
+    omega (arith, first, c.requires.2)
 
 pub overflow_add-place-2 : goal.overflow_add-place-2
 overflow_add-place-2 c = omega (arith, mod-lt c.args.place c.requires.0, c.requires.1)
 
 pub write_number-c-requires : goal.write_number-c-requires
-write_number-c-requires c = omega (arith, second c.before.before.before, first c.before.before.before.before.before.before.before, c.requires.2)
+write_number-c-requires c =
+    let first : c.write_number-a.result ≤ c.args.at + 4 = let a = c.args in run_few a.out.now a.at _ _ _ c.write_number-a.ensures in
+    let second : c.write_number-b.result ≤ c.write_number-a.result + 4 = run_few _ _ _ _ _ c.write_number-b.ensures in
+    omega (arith, second, first, c.requires.2)
 
 pub write_number-requires : goal.write_number-requires
-write_number-requires c = omega (arith, third c.before.before.before, second c.before.before.before.before.before.before.before, first c.before.before.before.before.before.before.before.before.before.before.before, c.requires.2)
+write_number-requires c =
+    let first : c.write_number-a.result ≤ c.args.at + 4 = let a = c.args in run_few a.out.now a.at _ _ _ c.write_number-a.ensures in
+    let second : c.write_number-b.result ≤ c.write_number-a.result + 4 = run_few _ _ _ _ _ c.write_number-b.ensures in
+    let third : c.write_number-c.result ≤ c.write_number-b.result + 4 = run_few _ _ _ _ _ c.write_number-c.ensures in
+    omega (arith, third, second, first, c.requires.2)
 
 pub returns : goal.returns
 returns c = let a = c.args in

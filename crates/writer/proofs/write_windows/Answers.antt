@@ -15,12 +15,6 @@ use Rattle.writer.proofs.write_windows.Goals as goal
 nothing : (k : ℕ) → 0 * k ≡ 0
 nothing k = omega arith
 
--- the places of one kind lie in the part
-fit : (c : goal.In-loop-kind) → let n = c.args.n in (c.loop-kind.kind * (n * n) + n * n ≤ 4 * (n * n)) × (n * n ≤ 144)
-fit c =
-    let q = c.args.n * c.args.n in
-    (omega (arith, mul-le-mul_right q c.loop-kind-test.true, suc-mul c.loop-kind.kind q), square c.args.n c.requires.1)
-
 pub overflow_mul-square : goal.overflow_mul-square
 overflow_mul-square c = omega (arith, square c.args.n c.requires.1)
 
@@ -34,18 +28,30 @@ loop-kind-init c = let a = c.args in (
 )
 
 pub overflow_mul-start : goal.overflow_mul-start
-overflow_mul-start c = let f = fit c in omega (arith, f.0, f.1)
+overflow_mul-start c =
+    let fit : (c.loop-kind.kind * (c.args.n * c.args.n) + c.args.n * c.args.n ≤ 4 * (c.args.n * c.args.n)) × (c.args.n * c.args.n ≤ 144) = let q = c.args.n * c.args.n in
+    (omega (arith, mul-le-mul_right q c.loop-kind-test.true, suc-mul c.loop-kind.kind q), square c.args.n c.requires.1) in
+    let f = fit in omega (arith, f.0, f.1)
 
 pub overflow_add-start : goal.overflow_add-start
-overflow_add-start c = let f = fit c.before in omega (arith, f.0, f.1)
+overflow_add-start c =
+    let fit : (c.loop-kind.kind * (c.args.n * c.args.n) + c.args.n * c.args.n ≤ 4 * (c.args.n * c.args.n)) × (c.args.n * c.args.n ≤ 144) = let q = c.args.n * c.args.n in
+    (omega (arith, mul-le-mul_right q c.loop-kind-test.true, suc-mul c.loop-kind.kind q), square c.args.n c.requires.1) in
+    let f = fit in omega (arith, f.0, f.1)
 
 pub write_places-p-requires : goal.write_places-p-requires
-write_places-p-requires c = let f = fit c.before in
+write_places-p-requires c =
+    let fit : (c.loop-kind.kind * (c.args.n * c.args.n) + c.args.n * c.args.n ≤ 4 * (c.args.n * c.args.n)) × (c.args.n * c.args.n ≤ 144) = let q = c.args.n * c.args.n in
+    (omega (arith, mul-le-mul_right q c.loop-kind-test.true, suc-mul c.loop-kind.kind q), square c.args.n c.requires.1) in
+    let f = fit in
     (c.requires.0, c.requires.1, omega arith, omega (arith, f.0, f.1), omega (arith, f.0, c.requires.2), omega (arith, c.loop-kind.invariant.2, c.loop-kind.invariant.0, c.requires.3))
 
 pub loop-kind-preserved : goal.loop-kind-preserved
-loop-kind-preserved c = let a = c.args in
-    let f = fit c.before.before.before.before in
+loop-kind-preserved c =
+    let fit : (c.loop-kind.kind * (c.args.n * c.args.n) + c.args.n * c.args.n ≤ 4 * (c.args.n * c.args.n)) × (c.args.n * c.args.n ≤ 144) = let q = c.args.n * c.args.n in
+    (omega (arith, mul-le-mul_right q c.loop-kind-test.true, suc-mul c.loop-kind.kind q), square c.args.n c.requires.1) in
+    let a = c.args in
+    let f = fit in
     let q = a.n * a.n in
     let b = c.loop-kind.kind * q in
     let z : length (take (b + q - b) (drop b a.part.now)) ≤ 144 = omega (arith, length-take-le (b + q - b) (drop b a.part.now) (omega (arith, length-drop b a.part.now, f.0, c.requires.2)), f.1) in (
