@@ -68,7 +68,3 @@ returns c =
     let a = c.args in let r = c.places_of-arc.result in
     four a.circuit.now a.at (a.mark % 8) (r.here / a.n + 1) (r.to % a.n + 1) (r.from % a.n + 1)
     ∙ ap (λ (c.before.before.before : Places). sets a.circuit.now a.at ((a.mark % 8) ∷ (c.here / a.n + 1) ∷ (c.to % a.n + 1) ∷ (c.from % a.n + 1) ∷ [])) ends-are
-
--- UNMATCHED nonzero-div-position: div-position : tie.Need-nonzero-div-position div-position c = search rules
--- UNMATCHED nonzero-rem-to: rem-to : tie.Need-nonzero-rem-to rem-to c = search rules
--- UNMATCHED nonzero-rem-from: rem-from : tie.Need-nonzero-rem-from rem-from c = search rules

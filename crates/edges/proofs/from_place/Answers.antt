@@ -30,8 +30,3 @@ overflow_cast-result-3 c = omega (arith, mod-lt c.args.k c.requires.0, c.require
 
 pub returns : goal.returns
 returns c = let a = c.args in ap (from_place a.n a.k) (passed a.value c.ranges.value.sfits)
-
--- UNMATCHED nonzero-div-t5: div-t5 : tie.Need-nonzero-div-t5 div-t5 c = search rules
--- UNMATCHED nonzero-div-t7: div-t7 : tie.Need-nonzero-div-t7 div-t7 c = search rules
--- UNMATCHED nonzero-rem-t8: rem-t8 : tie.Need-nonzero-rem-t8 rem-t8 c = search rules
--- UNMATCHED nonzero-rem-t11: rem-t11 : tie.Need-nonzero-rem-t11 rem-t11 c = search rules

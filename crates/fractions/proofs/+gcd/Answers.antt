@@ -4,6 +4,9 @@ use native.Mathlib.Nat.{mod-lt, pos_of_ne-zero}
 use Prim.Native.Nat.{ℕ, ◌<◌}
 use Rattle.fractions.proofs.+gcd.Goals as goal
 
+pub nonzero_rem-a : goal.nonzero_rem-a
+nonzero_rem-a t c = pos_of_ne-zero c.if-b-eq0.false
+
 pub gcd-requires : goal.gcd-requires
 gcd-requires t c = (rw (← c.decreases) (mod-lt c.args.a (pos_of_ne-zero c.if-b-eq0.false)), tt)
 
@@ -12,5 +15,3 @@ returns-then-b-eq0 t c = rw c.if-b-eq0.true (greatest_zero c.args.a)
 
 pub returns-else-b-eq0 : goal.returns-else-b-eq0
 returns-else-b-eq0 t c = greatest_step c.gcd.result c.args.a c.args.b c.gcd.ensures
-
--- UNMATCHED nonzero-rem-gcd: gcd-rem-gcd : tie.Need-nonzero-rem-gcd gcd-rem-gcd c = pos_of_ne-zero c.if1.false

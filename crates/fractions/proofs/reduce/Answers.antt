@@ -4,9 +4,12 @@ use borrow.Author.Rules.{rules}
 use Rattle.theory.proofs.Fractions.{greatest_parts}
 use Rattle.fractions.proofs.reduce.Goals as goal
 
+pub nonzero_div-result : goal.nonzero_div-result
+nonzero_div-result c = pos_of_dvd_of_pos c.gcd-divisor.ensures.right c.requires
+
+pub nonzero_div-result-2 : goal.nonzero_div-result-2
+nonzero_div-result-2 c = pos_of_dvd_of_pos c.gcd-divisor.ensures.right c.requires
+
 pub returns : goal.returns
 returns c = let p = greatest_parts c.gcd-divisor.result c.args.top c.args.bottom c.requires c.gcd-divisor.ensures in
     record { lowest = p.0; worth = p.1; positive = p.2 }
-
--- UNMATCHED nonzero-div-t4: div-t4 : tie.Need-nonzero-div-t4 div-t4 c = pos_of_dvd_of_pos c.gcd.ensures.right c.before.requires
--- UNMATCHED nonzero-div-t5: div-t5 : tie.Need-nonzero-div-t5 div-t5 c = pos_of_dvd_of_pos c.gcd.ensures.right c.before.requires

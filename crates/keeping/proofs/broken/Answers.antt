@@ -18,8 +18,3 @@ overflow_add-result-3 c = omega (arith, mod-lt c.args.k c.requires.0, c.requires
 
 pub returns : goal.returns
 returns c = refl
-
--- UNMATCHED nonzero-div-t6: div-t6 : tie.Need-nonzero-div-t6 div-t6 c = search rules
--- UNMATCHED nonzero-div-t7: div-t7 : tie.Need-nonzero-div-t7 div-t7 c = search rules
--- UNMATCHED nonzero-rem-t8: rem-t8 : tie.Need-nonzero-rem-t8 rem-t8 c = search rules
--- UNMATCHED nonzero-rem-t10: rem-t10 : tie.Need-nonzero-rem-t10 rem-t10 c = search rules

@@ -49,6 +49,22 @@ slice_bounds-first_broken-count c =
     let first_is : c.wide.result * (4 * (c.args.line.n * c.args.line.n)) ≡ get_or c.args.schedule.now c.args.g 0 * (4 * (c.args.line.n * c.args.line.n)) = let a = c.args in ap (λ (t : ℕ). t * (4 * (a.line.n * a.line.n))) c.wide.ensures in
     omega (arith, first_is, fit.part, long)
 
+pub slice_bounds-first_broken-start : goal.slice_bounds-first_broken-start
+slice_bounds-first_broken-start c =
+    let fit : Sizes (get_or c.args.schedule.now c.args.g 0) c.args.line.m c.args.line.n = let a = c.args in let ok = (granted a.line a.tables.now a.schedule.now a.times.now c.requires.0).sheet_ok in
+    sizes (get_or a.schedule.now a.g 0) a.line.m a.line.n ok.size.few_events ok.size.few_modes (ok.modes a.g c.requires.1) in
+    let long : c.args.line.m * (4 * (c.args.line.n * c.args.line.n)) ≤ length c.args.tables.now = let a = c.args in omega (arith, (granted a.line a.tables.now a.schedule.now a.times.now c.requires.0).sheet_ok.size.long_tables) in
+    let first_is : c.wide.result * (4 * (c.args.line.n * c.args.line.n)) ≡ get_or c.args.schedule.now c.args.g 0 * (4 * (c.args.line.n * c.args.line.n)) = let a = c.args in ap (λ (t : ℕ). t * (4 * (a.line.n * a.line.n))) c.wide.ensures in
+    omega (arith, first_is, fit.part, long)
+
+pub slice_bounds-first_broken-end : goal.slice_bounds-first_broken-end
+slice_bounds-first_broken-end c =
+    let fit : Sizes (get_or c.args.schedule.now c.args.g 0) c.args.line.m c.args.line.n = let a = c.args in let ok = (granted a.line a.tables.now a.schedule.now a.times.now c.requires.0).sheet_ok in
+    sizes (get_or a.schedule.now a.g 0) a.line.m a.line.n ok.size.few_events ok.size.few_modes (ok.modes a.g c.requires.1) in
+    let long : c.args.line.m * (4 * (c.args.line.n * c.args.line.n)) ≤ length c.args.tables.now = let a = c.args in omega (arith, (granted a.line a.tables.now a.schedule.now a.times.now c.requires.0).sheet_ok.size.long_tables) in
+    let first_is : c.wide.result * (4 * (c.args.line.n * c.args.line.n)) ≡ get_or c.args.schedule.now c.args.g 0 * (4 * (c.args.line.n * c.args.line.n)) = let a = c.args in ap (λ (t : ℕ). t * (4 * (a.line.n * a.line.n))) c.wide.ensures in
+    omega (arith, first_is, fit.part, long)
+
 pub first_broken-requires : goal.first_broken-requires
 first_broken-requires c =
     let fit : Sizes (get_or c.args.schedule.now c.args.g 0) c.args.line.m c.args.line.n = let a = c.args in let ok = (granted a.line a.tables.now a.schedule.now a.times.now c.requires.0).sheet_ok in
@@ -64,6 +80,3 @@ first_broken-requires c =
 pub returns : goal.returns
 returns c = let a = c.args in
     subst (λ (l : List ℤ). First (λ k. breaks_at a.line a.g k (get_or l k (pos 0)) a.times.now) (4 * (a.line.n * a.line.n)) c.first_broken.result) (lent c.before.before) c.first_broken.ensures
-
--- UNMATCHED slice-bounds-first-broken-start: part-first-broken-start : tie.Need-slice-bounds-first-broken-start part-first-broken-start c = let s = c.before.before.before.before in omega (arith, first_is c, (fit s).part, long s)
--- UNMATCHED slice-bounds-first-broken-end: part-first-broken-end : tie.Need-slice-bounds-first-broken-end part-first-broken-end c = let s = c.before.before.before.before in omega (arith, first_is c, (fit s).part, long s)

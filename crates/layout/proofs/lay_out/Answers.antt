@@ -42,6 +42,16 @@ slice_bounds-part-count c =
     let fit : Sizes c.loop-t.t c.args.m c.args.n = sizes c.loop-t.t c.args.m c.args.n c.requires.1 c.requires.2 c.loop-t-test.true in
     let f = fit in omega (arith, f.part, c.requires.3)
 
+pub slice_bounds-part-start : goal.slice_bounds-part-start
+slice_bounds-part-start c =
+    let fit : Sizes c.loop-t.t c.args.m c.args.n = sizes c.loop-t.t c.args.m c.args.n c.requires.1 c.requires.2 c.loop-t-test.true in
+    let f = fit in omega (arith, f.part, c.requires.3)
+
+pub slice_bounds-part-end : goal.slice_bounds-part-end
+slice_bounds-part-end c =
+    let fit : Sizes c.loop-t.t c.args.m c.args.n = sizes c.loop-t.t c.args.m c.args.n c.requires.1 c.requires.2 c.loop-t-test.true in
+    let f = fit in omega (arith, f.part, c.requires.3)
+
 pub next_window-k-requires : goal.next_window-k-requires
 next_window-k-requires c =
     let start : ℕ = c.loop-t.t * (4 * (c.args.n * c.args.n)) in
@@ -127,6 +137,3 @@ loop-t-preserved c = let a = c.args in
 pub returns : goal.returns
 returns c = let a = c.args in
     fill_done a.tables.now a.n c.loop-t.t a.m c.loop-t.list c.loop-t.w c.loop-t.invariant.1 (le_antisymm c.loop-t.invariant.0 c.loop-t-test.false)
-
--- UNMATCHED slice-bounds-part-start: part-part-start : tie.Need-slice-bounds-part-start invariant-loop2 decreases-loop2 invariant-loop decreases-loop part-part-start c = let f = fit c in omega (arith, f.part, c.before.before.requires.3)
--- UNMATCHED slice-bounds-part-end: part-part-end : tie.Need-slice-bounds-part-end invariant-loop2 decreases-loop2 invariant-loop decreases-loop part-part-end c = let f = fit c in omega (arith, f.part, c.before.before.requires.3)

@@ -36,6 +36,16 @@ slice_bounds-count-count c =
     let fit : Sizes c.loop-t.t c.args.m c.args.n = sizes c.loop-t.t c.args.m c.args.n c.requires.1 c.requires.2 c.loop-t-test.true in
     let f = fit in omega (arith, f.part, c.requires.3)
 
+pub slice_bounds-count-start : goal.slice_bounds-count-start
+slice_bounds-count-start c =
+    let fit : Sizes c.loop-t.t c.args.m c.args.n = sizes c.loop-t.t c.args.m c.args.n c.requires.1 c.requires.2 c.loop-t-test.true in
+    let f = fit in omega (arith, f.part, c.requires.3)
+
+pub slice_bounds-count-end : goal.slice_bounds-count-end
+slice_bounds-count-end c =
+    let fit : Sizes c.loop-t.t c.args.m c.args.n = sizes c.loop-t.t c.args.m c.args.n c.requires.1 c.requires.2 c.loop-t-test.true in
+    let f = fit in omega (arith, f.part, c.requires.3)
+
 pub count-windows-requires : goal.count-windows-requires
 count-windows-requires c =
     let fit : Sizes c.loop-t.t c.args.m c.args.n = sizes c.loop-t.t c.args.m c.args.n c.requires.1 c.requires.2 c.loop-t-test.true in
@@ -78,6 +88,3 @@ loop-t-preserved c =
 pub returns : goal.returns
 returns c = let a = c.args in
     subst (Starts a.tables.now a.n c.loop-t.start) (le_antisymm c.loop-t.invariant.0 c.loop-t-test.false) c.loop-t.invariant.2
-
--- UNMATCHED slice-bounds-count-start: part-count-start : tie.Need-slice-bounds-count-start invariant-loop decreases-loop part-count-start c = let f = fit c in omega (arith, f.part, c.before.before.requires.3)
--- UNMATCHED slice-bounds-count-end: part-count-end : tie.Need-slice-bounds-count-end invariant-loop decreases-loop part-count-end c = let f = fit c in omega (arith, f.part, c.before.before.requires.3)

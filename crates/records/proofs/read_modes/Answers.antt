@@ -43,6 +43,9 @@ offset_bounds-tables-start c = omega (arith, c.least-start.ensures.0, c.loop-t.i
 pub slice_bounds-read_mode-count : goal.slice_bounds-read_mode-count
 slice_bounds-read_mode-count c = omega (arith, c.least-start.ensures.0, c.loop-t.invariant.1, c.well-formed)
 
+pub slice_bounds-read_mode-start : goal.slice_bounds-read_mode-start
+slice_bounds-read_mode-start c = omega (arith, c.least-start.ensures.0, c.loop-t.invariant.1, c.well-formed)
+
 pub returns-in-Refused : goal.returns-in-Refused
 returns-in-Refused c = let a = c.args in
     c.loop-t.invariant.2 _ _ (mode_stop a.file.now a.n a.m c.loop-t.t c.loop-t.p c.loop-t.tables c.loop-t-test.true c.in-Refused.refusal
@@ -60,6 +63,3 @@ loop-t-preserved c = let a = c.args in
 pub returns : goal.returns
 returns c = let a = c.args in
     c.loop-t.invariant.2 _ _ (mode_done a.file.now a.n a.m c.loop-t.t c.loop-t.p c.loop-t.tables c.loop-t-test.false _)
-
--- UNMATCHED slice-bounds-read-mode-start: part-read-mode-start : tie.Need-slice-bounds-read-mode-start invariant-loop decreases-loop part-read-mode-start c = let l = c.before.before in omega (arith, c.least.ensures.0, l.loop.invariant.1, l.before.before.well-formed)
--- UNMATCHED slice-bounds-read-mode-end: part-read-mode-end : tie.Need-slice-bounds-read-mode-end invariant-loop decreases-loop part-read-mode-end c = search rules

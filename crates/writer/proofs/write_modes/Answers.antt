@@ -64,6 +64,28 @@ slice_bounds-write_mode-count c =
     suc-is t k = suc-mul t k in
     let f = fit in omega (arith, f.0, f.1)
 
+pub slice_bounds-write_mode-start : goal.slice_bounds-write_mode-start
+slice_bounds-write_mode-start c =
+    let fit : (c.loop-t.t * (4 * (c.args.n * c.args.n)) + 4 * (c.args.n * c.args.n) ≤ length c.args.tables.now) × (c.loop-t.t * (4 * (c.args.n * c.args.n)) ≤ 4608) = let k = 4 * (c.args.n * c.args.n) in (
+      omega (arith, mul-le-mul_right k c.loop-t-test.true, add-mul c.loop-t.t 1 k, c.requires.3, suc-is c.loop-t.t k),
+      mul-le-mul {n₁ = c.loop-t.t} {n₂ = 8} (omega (arith, c.loop-t-test.true, c.requires.2)) (few c.args.n c.requires.1),
+    )
+  where
+    suc-is : (t k : ℕ) → suc t * k ≡ t * k + k
+    suc-is t k = suc-mul t k in
+    let f = fit in omega (arith, f.0, f.1)
+
+pub slice_bounds-write_mode-end : goal.slice_bounds-write_mode-end
+slice_bounds-write_mode-end c =
+    let fit : (c.loop-t.t * (4 * (c.args.n * c.args.n)) + 4 * (c.args.n * c.args.n) ≤ length c.args.tables.now) × (c.loop-t.t * (4 * (c.args.n * c.args.n)) ≤ 4608) = let k = 4 * (c.args.n * c.args.n) in (
+      omega (arith, mul-le-mul_right k c.loop-t-test.true, add-mul c.loop-t.t 1 k, c.requires.3, suc-is c.loop-t.t k),
+      mul-le-mul {n₁ = c.loop-t.t} {n₂ = 8} (omega (arith, c.loop-t-test.true, c.requires.2)) (few c.args.n c.requires.1),
+    )
+  where
+    suc-is : (t k : ℕ) → suc t * k ≡ t * k + k
+    suc-is t k = suc-mul t k in
+    let f = fit in omega (arith, f.0, f.1)
+
 pub write_mode-p-requires : goal.write_mode-p-requires
 write_mode-p-requires c =
     let fit : (c.loop-t.t * (4 * (c.args.n * c.args.n)) + 4 * (c.args.n * c.args.n) ≤ length c.args.tables.now) × (c.loop-t.t * (4 * (c.args.n * c.args.n)) ≤ 4608) = let k = 4 * (c.args.n * c.args.n) in (
@@ -100,6 +122,3 @@ loop-t-preserved c =
 
 pub returns : goal.returns
 returns c = let a = c.args in modes_done a.tables.now a.n a.m c.loop-t.t c.loop-t.out c.loop-t.p _ c.loop-t.invariant.3 c.loop-t-test.false
-
--- UNMATCHED slice-bounds-write-mode-start: part-write-mode-start : tie.Need-slice-bounds-write-mode-start invariant-loop decreases-loop part-write-mode-start c = let f = fit c.before in omega (arith, f.0, f.1)
--- UNMATCHED slice-bounds-write-mode-end: part-write-mode-end : tie.Need-slice-bounds-write-mode-end invariant-loop decreases-loop part-write-mode-end c = let f = fit c.before in omega (arith, f.0, f.1)

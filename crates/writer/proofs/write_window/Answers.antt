@@ -10,6 +10,9 @@ use Rattle.writer.proofs.write_window.Goals as goal
 pub overflow_mul-n : goal.overflow_mul-n
 overflow_mul-n c = omega (arith, square c.args.n c.requires.1)
 
+pub nonzero_div-place : goal.nonzero_div-place
+nonzero_div-place c = mul-pos c.requires.0 c.requires.0
+
 pub overflow_add-place : goal.overflow_add-place
 overflow_add-place c = omega (arith, mod-lt (c.args.place / c.args.n) c.requires.0, c.requires.1)
 
@@ -37,8 +40,3 @@ write_number-requires c =
 pub returns : goal.returns
 returns c = let a = c.args in
     run_more a.out.now a.at _ _ _ (run_more a.out.now a.at _ _ _ (run_more a.out.now a.at _ _ _ c.write_number-a.ensures _ _ _ c.write_number-b.ensures) _ _ _ c.write_number-c.ensures) _ _ _ c.write_number.ensures
-
--- UNMATCHED nonzero-div-write-number: div-write-number : tie.Need-nonzero-div-write-number div-write-number c = let s = c.before.before in mul-pos s.requires.0 s.requires.0
--- UNMATCHED nonzero-div-write-number-2: div-write-number-2 : tie.Need-nonzero-div-write-number-2 div-write-number-2 c = search rules
--- UNMATCHED nonzero-rem-write-number: rem-write-number : tie.Need-nonzero-rem-write-number rem-write-number c = search rules
--- UNMATCHED nonzero-rem-write-number-2: rem-write-number-2 : tie.Need-nonzero-rem-write-number-2 rem-write-number-2 c = search rules
