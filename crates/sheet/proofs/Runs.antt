@@ -69,7 +69,7 @@ no_more {j = j} {k = k} p q = elim (dec_lt j k) [
 ]
 
 -- numbers after numbers
-joined : {file : List ℕ} {from j k a b : ℕ} → Run file from j a → Run file a k b → (n : ℕ) × (n ≡ j + k) × Run file from n b
+joined : {file : List ℕ} {from j a k b : ℕ} → Run file from j a → Run file a k b → (n : ℕ) × (n ≡ j + k) × Run file from n b
 joined {j = j} p none = (j, omega arith, p)
 joined p (more q e) = let r = joined p q in (suc r.0, omega (arith, r.1), more r.2 e)
 

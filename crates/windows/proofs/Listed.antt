@@ -17,7 +17,7 @@ use Rattle.windows.specs.Arcs.{arc_of, one_to, each, kinds, unless_absent, windo
 
 -- ---- joined lists
 
-pub each_in : {A B : Type 0} {b : B} {l : List A} (f : A → List B) {a : A} → Memᴰ a l → Memᴰ b (f a) → Memᴰ b (each l f)
+pub each_in : {A B : Type 0} {b : B} {a : A} {l : List A} (f : A → List B) → Memᴰ a l → Memᴰ b (f a) → Memᴰ b (each l f)
 each_in {b} f (Memᴰ.head {x = c} {xs = rest} e) m = Memᴰ.append_left {s = f c} (each rest f) (rw (← e) m)
 each_in f (Memᴰ.tail {x = c} k) m = Memᴰ.append_right (f c) (each_in f k m)
 

@@ -60,4 +60,4 @@ returns c =
     let in_time : timed c.args.p c.args.q ≡ true = sym c.is_timed.ensures ∙ c.if-not-is_timed.false in
     let none : ask_refusal S c.args.p c.args.q c.args.plan.now c.args.circuit.now ≡ 0 = refused_none S c.args.p c.args.q c.args.plan.now c.args.circuit.now clean in_time (sym c.is_roomy.ensures ∙ c.if-not-is_roomy.false) in
     let a = c.args in
-    outcome S a.p a.q a.plan.now a.circuit.now none c.decide.result c.decide.new.1.1.1.1.1.1.1.0 c.decide.new.1.1.1.1.1.1.1.1.0 c.decide.ensures
+    outcome S a.p a.q a.plan.now a.circuit.now none c.decide.result c.decide.new.plan c.decide.new.circuit c.decide.ensures

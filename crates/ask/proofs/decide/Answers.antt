@@ -50,10 +50,10 @@ finish-requires c =
     let G : Granted S c.args.p c.args.q c.args.plan.now c.args.circuit.now = granted S c.args.p c.args.q c.args.plan.now c.args.circuit.now c.requires in
     let laid : (l : List Record) → Laid (laid_out c.args.tables.now c.args.n c.args.m) l → Modes c.args.tables.now c.args.n l c.starts-start.result c.args.m = λ l. let a = c.args in modes a.tables.now a.n c.starts-start.result a.m c.starts-start.ensures l in
     let a = c.args in let g = G in let few = nodes_few S g.sheet_ok in let e = c.run-last.ensures in (
-  leads S g.sheet_ok a.p a.q e.0 c.starts-start.result (laid e.0 e.1) c.run-last.result.rounds c.run-last.result.node c.run-last.new.1.1.1.1.0 c.run-last.new.1.1.1.1.1.0 e.2
-      (omega (arith, few, c.run-last.auto.1.1.1.1.1.0, length-replicate {A = ℕ} 192 0)),
+  leads S g.sheet_ok a.p a.q e.0 c.starts-start.result (laid e.0 e.1) c.run-last.result.rounds c.run-last.result.node c.run-last.new.times c.run-last.new.row e.2
+      (omega (arith, few, c.run-last.auto.row, length-replicate {A = ℕ} 192 0)),
   few,
-  omega (arith, few, c.run-last.auto.1.1.1.1.0, ap length c.zeros-times.ensures, length-replicate {A = ℕ} 192 0),
+  omega (arith, few, c.run-last.auto.times, ap length c.zeros-times.ensures, length-replicate {A = ℕ} 192 0),
   g.plan_long,
   omega (arith, g.circuit_long),
 )
@@ -64,5 +64,5 @@ returns c =
     let G : Granted S c.args.p c.args.q c.args.plan.now c.args.circuit.now = granted S c.args.p c.args.q c.args.plan.now c.args.circuit.now c.requires in
     let laid : (l : List Record) → Laid (laid_out c.args.tables.now c.args.n c.args.m) l → Modes c.args.tables.now c.args.n l c.starts-start.result c.args.m = λ l. let a = c.args in modes a.tables.now a.n c.starts-start.result a.m c.starts-start.ensures l in
     let a = c.args in let g = G in let e = c.run-last.ensures in
-    settles S g.sheet_ok a.p a.q e.0 c.starts-start.result (laid e.0 e.1) c.run-last.result.rounds c.run-last.result.node c.run-last.new.1.1.1.1.0 c.run-last.new.1.1.1.1.1.0 e.2
-    a.plan.now a.circuit.now (omega (arith, g.circuit_long)) c.finish.result c.finish.new.1.1.1.1.1.0 c.finish.new.1.1.1.1.1.1.0 c.finish.ensures
+    settles S g.sheet_ok a.p a.q e.0 c.starts-start.result (laid e.0 e.1) c.run-last.result.rounds c.run-last.result.node c.run-last.new.times c.run-last.new.row e.2
+    a.plan.now a.circuit.now (omega (arith, g.circuit_long)) c.finish.result c.finish.new.plan c.finish.new.circuit c.finish.ensures

@@ -29,13 +29,13 @@ pub slice_bounds-check_times-end : goal.slice_bounds-check_times-end
 slice_bounds-check_times-end c = omega (arith, leaves_few (leaves c), c.read_sheet-read.auto.tables)
 
 pub slice_bounds-check_times-end-in-Done : goal.slice_bounds-check_times-end-in-Done
-slice_bounds-check_times-end-in-Done c = sym (length-take-le _ c.read_sheet-read.new.1.0 (omega (arith, leaves_few (leaves c.before), c.read_sheet-read.auto.tables)))
+slice_bounds-check_times-end-in-Done c = sym (length-take-le _ c.read_sheet-read.new.tables (omega (arith, leaves_few (leaves c.before), c.read_sheet-read.auto.tables)))
 
 pub slice_bounds-check_times-end-in-Done-2 : goal.slice_bounds-check_times-end-in-Done-2
 slice_bounds-check_times-end-in-Done-2 c = omega (arith, (leaves_sizes (leaves c.before)).few_positions, c.read_sheet-read.auto.schedule)
 
 pub slice_bounds-check_times-end-in-Done-3 : goal.slice_bounds-check_times-end-in-Done-3
-slice_bounds-check_times-end-in-Done-3 c = sym (length-take-le _ c.read_sheet-read.new.1.1.0 (omega (arith, (leaves_sizes (leaves c.before.before)).few_positions, c.read_sheet-read.auto.schedule)))
+slice_bounds-check_times-end-in-Done-3 c = sym (length-take-le _ c.read_sheet-read.new.schedule (omega (arith, (leaves_sizes (leaves c.before.before)).few_positions, c.read_sheet-read.auto.schedule)))
 
 pub returns-in-Refused : goal.returns-in-Refused
 returns-in-Refused c = let refused = read_refused _ _ _ c.requires.0 c.requires.1 c.read_sheet-read.result _ _ _ c.in-Refused.is c.read_sheet-read.ensures in

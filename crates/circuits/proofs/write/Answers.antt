@@ -44,7 +44,7 @@ loop-j-smaller c = omega (arith, c.loop-j-test.true)
 pub loop-j-preserved : goal.loop-j-preserved
 loop-j-preserved c = let a = c.args in (
   c.write_arc.auto.circuit ∙ c.loop-j.invariant.0,
-  written_more a.row.now a.n a.s a.count a.circuit.now c.loop-j.j c.loop-j.x c.loop-j.circuit c.write_arc.new.0 c.loop-j.invariant.1 c.loop-j-test.true c.write_arc.ensures
+  written_more a.row.now a.n a.s a.count a.circuit.now c.loop-j.j c.loop-j.x c.loop-j.circuit c.write_arc.new.circuit c.loop-j.invariant.1 c.loop-j-test.true c.write_arc.ensures
       c.departure-x.result c.departure-x.ensures,
 )
 

@@ -28,13 +28,13 @@ pub slice_bounds-decide-end : goal.slice_bounds-decide-end
 slice_bounds-decide-end c = omega (arith, leaves_few (leaves c), c.read_sheet-read.auto.tables)
 
 pub slice_bounds-decide-end-in-Done : goal.slice_bounds-decide-end-in-Done
-slice_bounds-decide-end-in-Done c = sym (length-take-le _ c.read_sheet-read.new.1.0 (omega (arith, leaves_few (leaves c.before), c.read_sheet-read.auto.tables)))
+slice_bounds-decide-end-in-Done c = sym (length-take-le _ c.read_sheet-read.new.tables (omega (arith, leaves_few (leaves c.before), c.read_sheet-read.auto.tables)))
 
 pub slice_bounds-decide-end-in-Done-2 : goal.slice_bounds-decide-end-in-Done-2
 slice_bounds-decide-end-in-Done-2 c = omega (arith, (leaves_sizes (leaves c.before)).few_positions, c.read_sheet-read.auto.schedule)
 
 pub slice_bounds-decide-end-in-Done-3 : goal.slice_bounds-decide-end-in-Done-3
-slice_bounds-decide-end-in-Done-3 c = sym (length-take-le _ c.read_sheet-read.new.1.1.0 (omega (arith, (leaves_sizes (leaves c.before.before)).few_positions, c.read_sheet-read.auto.schedule)))
+slice_bounds-decide-end-in-Done-3 c = sym (length-take-le _ c.read_sheet-read.new.schedule (omega (arith, (leaves_sizes (leaves c.before.before)).few_positions, c.read_sheet-read.auto.schedule)))
 
 pub decide-requires : goal.decide-requires
 decide-requires c = leaves_admitted (leaves c.before.before)

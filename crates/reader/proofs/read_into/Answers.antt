@@ -19,7 +19,7 @@ unfolding sheet_in
 returns-in-Counts c =
     let head : counts_at c.args.file.now 0 ≡ got (counts c.in-Counts.n c.in-Counts.m c.in-Counts.positions) c.in-Counts.next = sym c.read_head.ensures ∙ ap head_part c.in-Counts.is in
     let a = c.args in
-    subst (λ (x : Part Sheet). Fills x a.tables.now a.schedule.now c.read_rest.result c.read_rest.new.1.1.1.1.1.0 c.read_rest.new.1.1.1.1.1.1.0)
+    subst (λ (x : Part Sheet). Fills x a.tables.now a.schedule.now c.read_rest.result c.read_rest.new.tables c.read_rest.new.schedule)
     (sym (then_value _ _ _ _ head)) c.read_rest.ensures
 
 pub returns-in-Refused : goal.returns-in-Refused

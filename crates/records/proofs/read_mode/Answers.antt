@@ -37,7 +37,7 @@ returns-in_default c = let a = c.args in
 pub returns : goal.returns
 unfolding mode_at
 returns c = let a = c.args in
-    subst (λ (x : Part (List Placed)). Walks (store_mode a.n) x a.part.now c.read_windows.result c.read_windows.new.1.1.1.1.0)
+    subst (λ (x : Part (List Placed)). Walks (store_mode a.n) x a.part.now c.read_windows.result c.read_windows.new.part)
     (sym (after_value _ _ _ _ (count-is a.file.now a.n a.at ∙ sym c.number_within-read.ensures ∙ c.in-Value.is)))
     (mode_walks a.file.now a.n c.in-Value.count c.in-Value.next a.part.now _ _
-    (subst (λ (l : List ℤ). Walks store (records_at a.file.now a.n c.in-Value.count 0 c.in-Value.next) l c.read_windows.result c.read_windows.new.1.1.1.1.0) c.clear.ensures c.read_windows.ensures))
+    (subst (λ (l : List ℤ). Walks store (records_at a.file.now a.n c.in-Value.count 0 c.in-Value.next) l c.read_windows.result c.read_windows.new.part) c.clear.ensures c.read_windows.ensures))

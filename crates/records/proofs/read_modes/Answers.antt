@@ -55,9 +55,9 @@ pub loop-t-preserved : goal.loop-t-preserved
 loop-t-preserved c = let a = c.args in
     let k = walked (store_mode a.n) _ _ _ _ _ c.in-At.is c.read_mode.ensures in (
       omega (arith, c.loop-t-test.true),
-      same_len_mid c.least-start.result (length c.loop-t.tables - c.least-start.result) c.loop-t.tables c.read_mode.new.1.1.1.0 c.read_mode.auto.1.1.1.0 ∙ c.loop-t.invariant.1,
+      same_len_mid c.least-start.result (length c.loop-t.tables - c.least-start.result) c.loop-t.tables c.read_mode.new.part c.read_mode.auto.part ∙ c.loop-t.invariant.1,
       λ r now h. c.loop-t.invariant.2 r now (mode_next a.file.now a.n a.m c.loop-t.t c.loop-t.p c.loop-t.tables c.loop-t-test.true k.thing _ k.is _
-          (part_back c.loop-t.tables (laid (4 * (a.n * a.n)) k.thing) c.read_mode.new.1.1.1.0 (c.loop-t.t * (4 * (a.n * a.n))) c.least-start.result (c.least-start.ensures.1, c.least-start.ensures.2) k.after) r now h),
+          (part_back c.loop-t.tables (laid (4 * (a.n * a.n)) k.thing) c.read_mode.new.part (c.loop-t.t * (4 * (a.n * a.n))) c.least-start.result (c.least-start.ensures.1, c.least-start.ensures.2) k.after) r now h),
     )
 
 pub returns : goal.returns

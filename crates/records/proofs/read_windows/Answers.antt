@@ -36,7 +36,7 @@ returns-in-Refused c = let a = c.args in
 
 pub loop-k-preserved : goal.loop-k-preserved
 loop-k-preserved c = let a = c.args in
-    let e : c.put_value.new.0 ≡ set c.loop-k.part c.in-Placed.place (decoded c.in-Placed.code) =
+    let e : c.put_value.new.part ≡ set c.loop-k.part c.in-Placed.place (decoded c.in-Placed.code) =
     c.put_value.ensures ∙ ap (λ (z : ℤ). set c.loop-k.part c.in-Placed.place z) (passed c.decode.result c.decode.type-inv ∙ c.decode.ensures) in (
       omega (arith, c.loop-k-test.true),
       c.put_value.auto.part ∙ c.loop-k.invariant.1,

@@ -10,7 +10,7 @@ use Rattle.telling.proofs.tell_plan.Goals as goal
 pub put_plan-requires : goal.put_plan-requires
 put_plan-requires c = let ok = accepted _ c.requires.0.admitted in
     let z = ok.size in
-    (omega (arith, c.requires.3), z.some_events, z.few_events, z.few_positions, omega (arith, nodes_few _ ok, c.ask.auto.1.1.1.1.1.1.1.0, c.requires.1))
+    (omega (arith, c.requires.3), z.some_events, z.few_events, z.few_positions, omega (arith, nodes_few _ ok, c.ask.auto.plan, c.requires.1))
 
 pub returns-in-Accepted : goal.returns-in-Accepted
 returns-in-Accepted c = let a = c.ask in

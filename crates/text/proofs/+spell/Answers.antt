@@ -40,5 +40,5 @@ shape_of-out t c = c.put_byte-2.auto.out ∙ c.spell-next.auto.out
 
 pub returns : goal.returns
 returns t c = let a = c.args in
-    spells_rest a.at a.left a.value c.spell-next.result c.digit-2.result c.put_byte-2.result a.out.now c.spell-next.new.0 c.put_byte-2.new.0
+    spells_rest a.at a.left a.value c.spell-next.result c.digit-2.result c.put_byte-2.result a.out.now c.spell-next.new.out c.put_byte-2.new.out
     c.if-left-eq0.false c.if-value-lt10.false c.spell-next.ensures c.digit-2.ensures c.put_byte-2.ensures

@@ -16,23 +16,23 @@ use Rattle.writer.proofs.write_all.Goals as goal
 
 pub write_number-b-requires : goal.write_number-b-requires
 write_number-b-requires c =
-    let one : state c.write_number-a.result c.write_number-a.new.0 ≡ run c.args.out.now 0 (1 ∷ []) = c.write_number-a.ensures in
+    let one : state c.write_number-a.result c.write_number-a.new.out ≡ run c.args.out.now 0 (1 ∷ []) = c.write_number-a.ensures in
     omega (arith, run_few _ _ _ _ _ one)
 
 pub write_number-c-requires : goal.write_number-c-requires
 write_number-c-requires c =
     let E2 : tie.Start = c.before.before.before.before.before.before.before.before in
-    let one : state c.write_number-a.result c.write_number-a.new.0 ≡ run c.args.out.now 0 (1 ∷ []) = c.write_number-a.ensures in
-    let two : state c.write_number-b.result c.write_number-b.new.0 ≡ run E2.args.out.now 0 (1 ∷ E2.args.n ∷ []) = run_more _ _ _ _ _ one _ _ _ c.write_number-b.ensures in
+    let one : state c.write_number-a.result c.write_number-a.new.out ≡ run c.args.out.now 0 (1 ∷ []) = c.write_number-a.ensures in
+    let two : state c.write_number-b.result c.write_number-b.new.out ≡ run E2.args.out.now 0 (1 ∷ E2.args.n ∷ []) = run_more _ _ _ _ _ one _ _ _ c.write_number-b.ensures in
     omega (arith, run_few _ _ _ _ _ two)
 
 pub write_number-d-requires : goal.write_number-d-requires
 write_number-d-requires c =
     let E2 : tie.Start = c.before.before.before.before.before.before.before.before in
     let E3 : tie.Start = E2 in
-    let one : state c.write_number-a.result c.write_number-a.new.0 ≡ run c.args.out.now 0 (1 ∷ []) = c.write_number-a.ensures in
-    let two : state c.write_number-b.result c.write_number-b.new.0 ≡ run E2.args.out.now 0 (1 ∷ E2.args.n ∷ []) = run_more _ _ _ _ _ one _ _ _ c.write_number-b.ensures in
-    let three : state c.write_number-c.result c.write_number-c.new.0 ≡ run E3.args.out.now 0 (1 ∷ E3.args.n ∷ E3.args.m ∷ []) = run_more _ _ _ _ _ two _ _ _ c.write_number-c.ensures in
+    let one : state c.write_number-a.result c.write_number-a.new.out ≡ run c.args.out.now 0 (1 ∷ []) = c.write_number-a.ensures in
+    let two : state c.write_number-b.result c.write_number-b.new.out ≡ run E2.args.out.now 0 (1 ∷ E2.args.n ∷ []) = run_more _ _ _ _ _ one _ _ _ c.write_number-b.ensures in
+    let three : state c.write_number-c.result c.write_number-c.new.out ≡ run E3.args.out.now 0 (1 ∷ E3.args.n ∷ E3.args.m ∷ []) = run_more _ _ _ _ _ two _ _ _ c.write_number-c.ensures in
     omega (arith, run_few _ _ _ _ _ three)
 
 pub write_schedule-e-requires : goal.write_schedule-e-requires
@@ -42,10 +42,10 @@ write_schedule-e-requires c =
     let E2 : tie.Start = c.before.before.before.before.before.before.before.before in
     let E3 : tie.Start = E2 in
     let E4 : tie.Start = E3 in
-    let one : state c.write_number-a.result c.write_number-a.new.0 ≡ run c.args.out.now 0 (1 ∷ []) = c.write_number-a.ensures in
-    let two : state c.write_number-b.result c.write_number-b.new.0 ≡ run E2.args.out.now 0 (1 ∷ E2.args.n ∷ []) = run_more _ _ _ _ _ one _ _ _ c.write_number-b.ensures in
-    let three : state c.write_number-c.result c.write_number-c.new.0 ≡ run E3.args.out.now 0 (1 ∷ E3.args.n ∷ E3.args.m ∷ []) = run_more _ _ _ _ _ two _ _ _ c.write_number-c.ensures in
-    let four : state c.write_number-d.result c.write_number-d.new.0 ≡ run E4.args.out.now 0 (1 ∷ E4.args.n ∷ E4.args.m ∷ E4.args.positions ∷ []) = run_more _ _ _ _ _ three _ _ _ c.write_number-d.ensures in
+    let one : state c.write_number-a.result c.write_number-a.new.out ≡ run c.args.out.now 0 (1 ∷ []) = c.write_number-a.ensures in
+    let two : state c.write_number-b.result c.write_number-b.new.out ≡ run E2.args.out.now 0 (1 ∷ E2.args.n ∷ []) = run_more _ _ _ _ _ one _ _ _ c.write_number-b.ensures in
+    let three : state c.write_number-c.result c.write_number-c.new.out ≡ run E3.args.out.now 0 (1 ∷ E3.args.n ∷ E3.args.m ∷ []) = run_more _ _ _ _ _ two _ _ _ c.write_number-c.ensures in
+    let four : state c.write_number-d.result c.write_number-d.new.out ≡ run E4.args.out.now 0 (1 ∷ E4.args.n ∷ E4.args.m ∷ E4.args.positions ∷ []) = run_more _ _ _ _ _ three _ _ _ c.write_number-d.ensures in
     let z = sizes E4 in (z.few_positions, z.long_schedule, omega (arith, run_few _ _ _ _ _ four))
 
 pub write_modes-requires : goal.write_modes-requires
@@ -56,11 +56,11 @@ write_modes-requires c =
     let E3 : tie.Start = E2 in
     let E4 : tie.Start = E3 in
     let E5 : tie.Start = E4 in
-    let one : state c.write_number-a.result c.write_number-a.new.0 ≡ run c.args.out.now 0 (1 ∷ []) = c.write_number-a.ensures in
-    let two : state c.write_number-b.result c.write_number-b.new.0 ≡ run E2.args.out.now 0 (1 ∷ E2.args.n ∷ []) = run_more _ _ _ _ _ one _ _ _ c.write_number-b.ensures in
-    let three : state c.write_number-c.result c.write_number-c.new.0 ≡ run E3.args.out.now 0 (1 ∷ E3.args.n ∷ E3.args.m ∷ []) = run_more _ _ _ _ _ two _ _ _ c.write_number-c.ensures in
-    let four : state c.write_number-d.result c.write_number-d.new.0 ≡ run E4.args.out.now 0 (1 ∷ E4.args.n ∷ E4.args.m ∷ E4.args.positions ∷ []) = run_more _ _ _ _ _ three _ _ _ c.write_number-d.ensures in
-    let five : state c.write_schedule-e.result c.write_schedule-e.new.0 ≡ run E5.args.out.now 0 (1 ∷ E5.args.n ∷ E5.args.m ∷ E5.args.positions ∷ take E5.args.positions E5.args.schedule.now) = run_more _ _ _ _ _ four _ _ _ c.write_schedule-e.ensures in
+    let one : state c.write_number-a.result c.write_number-a.new.out ≡ run c.args.out.now 0 (1 ∷ []) = c.write_number-a.ensures in
+    let two : state c.write_number-b.result c.write_number-b.new.out ≡ run E2.args.out.now 0 (1 ∷ E2.args.n ∷ []) = run_more _ _ _ _ _ one _ _ _ c.write_number-b.ensures in
+    let three : state c.write_number-c.result c.write_number-c.new.out ≡ run E3.args.out.now 0 (1 ∷ E3.args.n ∷ E3.args.m ∷ []) = run_more _ _ _ _ _ two _ _ _ c.write_number-c.ensures in
+    let four : state c.write_number-d.result c.write_number-d.new.out ≡ run E4.args.out.now 0 (1 ∷ E4.args.n ∷ E4.args.m ∷ E4.args.positions ∷ []) = run_more _ _ _ _ _ three _ _ _ c.write_number-d.ensures in
+    let five : state c.write_schedule-e.result c.write_schedule-e.new.out ≡ run E5.args.out.now 0 (1 ∷ E5.args.n ∷ E5.args.m ∷ E5.args.positions ∷ take E5.args.positions E5.args.schedule.now) = run_more _ _ _ _ _ four _ _ _ c.write_schedule-e.ensures in
     let z = sizes E5 in
     let a = E5.args in (
       z.some_events,
@@ -77,9 +77,9 @@ returns c =
     let E3 : tie.Start = E2 in
     let E4 : tie.Start = E3 in
     let E5 : tie.Start = E4 in
-    let one : state c.write_number-a.result c.write_number-a.new.0 ≡ run c.args.out.now 0 (1 ∷ []) = c.write_number-a.ensures in
-    let two : state c.write_number-b.result c.write_number-b.new.0 ≡ run E2.args.out.now 0 (1 ∷ E2.args.n ∷ []) = run_more _ _ _ _ _ one _ _ _ c.write_number-b.ensures in
-    let three : state c.write_number-c.result c.write_number-c.new.0 ≡ run E3.args.out.now 0 (1 ∷ E3.args.n ∷ E3.args.m ∷ []) = run_more _ _ _ _ _ two _ _ _ c.write_number-c.ensures in
-    let four : state c.write_number-d.result c.write_number-d.new.0 ≡ run E4.args.out.now 0 (1 ∷ E4.args.n ∷ E4.args.m ∷ E4.args.positions ∷ []) = run_more _ _ _ _ _ three _ _ _ c.write_number-d.ensures in
-    let five : state c.write_schedule-e.result c.write_schedule-e.new.0 ≡ run E5.args.out.now 0 (1 ∷ E5.args.n ∷ E5.args.m ∷ E5.args.positions ∷ take E5.args.positions E5.args.schedule.now) = run_more _ _ _ _ _ four _ _ _ c.write_schedule-e.ensures in
+    let one : state c.write_number-a.result c.write_number-a.new.out ≡ run c.args.out.now 0 (1 ∷ []) = c.write_number-a.ensures in
+    let two : state c.write_number-b.result c.write_number-b.new.out ≡ run E2.args.out.now 0 (1 ∷ E2.args.n ∷ []) = run_more _ _ _ _ _ one _ _ _ c.write_number-b.ensures in
+    let three : state c.write_number-c.result c.write_number-c.new.out ≡ run E3.args.out.now 0 (1 ∷ E3.args.n ∷ E3.args.m ∷ []) = run_more _ _ _ _ _ two _ _ _ c.write_number-c.ensures in
+    let four : state c.write_number-d.result c.write_number-d.new.out ≡ run E4.args.out.now 0 (1 ∷ E4.args.n ∷ E4.args.m ∷ E4.args.positions ∷ []) = run_more _ _ _ _ _ three _ _ _ c.write_number-d.ensures in
+    let five : state c.write_schedule-e.result c.write_schedule-e.new.out ≡ run E5.args.out.now 0 (1 ∷ E5.args.n ∷ E5.args.m ∷ E5.args.positions ∷ take E5.args.positions E5.args.schedule.now) = run_more _ _ _ _ _ four _ _ _ c.write_schedule-e.ensures in
     run_more _ _ _ _ _ five _ _ _ c.write_modes.ensures

@@ -16,6 +16,6 @@ write_windows-requires c = (c.requires.0, c.requires.1, c.requires.2, omega (ari
 pub returns : goal.returns
 unfolding mode_numbers
 returns c = let a = c.args in
-    let n : state c.write_number-a.result c.write_number-a.new.0 ≡ run a.out.now a.at (length (placed_of 0 (take (4 * (a.n * a.n)) a.part.now)) ∷ []) =
+    let n : state c.write_number-a.result c.write_number-a.new.out ≡ run a.out.now a.at (length (placed_of 0 (take (4 * (a.n * a.n)) a.part.now)) ∷ []) =
     c.write_number-a.ensures ∙ ap (λ (k : ℕ). run a.out.now a.at (k ∷ [])) c.count_windows.ensures in
     run_more a.out.now a.at _ _ _ n _ _ _ c.write_windows.ensures

@@ -110,7 +110,7 @@ loop-t-preserved c =
     suc-is t k = suc-mul t k in
     let a = c.args in
     let b = c.loop-t.t * (4 * (a.n * a.n)) in
-    let e : state c.write_mode-p.result c.write_mode-p.new.0 ≡ run c.loop-t.out c.loop-t.p (mode_numbers a.n (take (4 * (a.n * a.n)) (drop b a.tables.now))) =
+    let e : state c.write_mode-p.result c.write_mode-p.new.out ≡ run c.loop-t.out c.loop-t.p (mode_numbers a.n (take (4 * (a.n * a.n)) (drop b a.tables.now))) =
     c.write_mode-p.ensures ∙ ap (λ (x : List ℤ). run c.loop-t.out c.loop-t.p (mode_numbers a.n (take (4 * (a.n * a.n)) x))) (rest_all b a.tables.now) in
     let z : length (take (4 * (a.n * a.n)) (drop b a.tables.now)) ≤ 576 =
     omega (arith, length-take-le (4 * (a.n * a.n)) (drop b a.tables.now) (omega (arith, length-drop b a.tables.now, fit.0)), few a.n c.requires.1) in (

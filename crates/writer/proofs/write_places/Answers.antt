@@ -27,7 +27,7 @@ pub loop-k-preserved : goal.loop-k-preserved
 loop-k-preserved c = let a = c.args in
     let z = get_or a.part.now c.loop-k.k (pos 0) in
     let h : c.loop-k.k < a.end = c.loop-k-test.true in
-    let e : state c.write_cell-p.result c.write_cell-p.new.0 ≡ run c.loop-k.out c.loop-k.p (records a.n (cell c.loop-k.k z)) =
+    let e : state c.write_cell-p.result c.write_cell-p.new.out ≡ run c.loop-k.out c.loop-k.p (records a.n (cell c.loop-k.k z)) =
     c.write_cell-p.ensures ∙ ap (λ (x : ℤ). run c.loop-k.out c.loop-k.p (records a.n (cell c.loop-k.k x))) (passed z c.write_cell-arg-in-loop-k-1.given) in (
       omega (arith, c.loop-k.invariant.0),
       omega (arith, h),

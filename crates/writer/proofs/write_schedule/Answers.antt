@@ -23,7 +23,7 @@ write_number-p-requires c = omega (arith, c.loop-h.invariant.2, c.loop-h.invaria
 pub loop-h-preserved : goal.loop-h-preserved
 loop-h-preserved c = let a = c.args in
     let h : c.loop-h.h < a.positions = c.loop-h-test.true in
-    let e : state c.write_number-p.result c.write_number-p.new.0 ≡ run c.loop-h.out c.loop-h.p (get_or a.schedule.now c.loop-h.h 0 ∷ []) =
+    let e : state c.write_number-p.result c.write_number-p.new.out ≡ run c.loop-h.out c.loop-h.p (get_or a.schedule.now c.loop-h.h 0 ∷ []) =
     c.write_number-p.ensures ∙ ap (λ (x : ℕ). run c.loop-h.out c.loop-h.p (x ∷ [])) c.wide.ensures in (
       omega arith,
       c.write_number-p.auto.out ∙ c.loop-h.invariant.1,
