@@ -9,5 +9,5 @@ use Rattle.host.proofs.settle.Goals as goal
 
 pub returns : goal.returns
 returns c = let g = c.args in
-    subst (Answers (timed g.p g.q) (sheet g.n g.m g.positions g.tables.now g.schedule.now) g.p g.q) (sym c.number_of_lem.ensures)
+    subst (Answers (timed g.p g.q) (sheet g.n g.m g.positions g.tables.now g.schedule.now) g.p g.q) (sym c.number_of.ensures)
     (answers _ g.p g.q g.plan.now g.circuit.now c.requires.0 c.requires.1 c.requires.2 (answer_asked c.ask.result) c.ask.new.plan c.ask.new.circuit c.ask.ensures)

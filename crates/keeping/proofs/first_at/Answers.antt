@@ -12,12 +12,6 @@ use Rattle.keeping.proofs.Windows.{granted, limits, part, spreads}
 use borrow.Author.Rules.{rules}
 use Rattle.keeping.proofs.first_at.Goals as goal
 
--- FIXME
--- what is lent is the mode's part
-lent : (c : goal.After-wide) → let a = c.before.before.before.before.args in let from = c.wide.result * (4 * (a.line.n * a.line.n)) in
-    take (length a.tables.now - from) (drop from a.tables.now) ≡ part a.line a.tables.now a.schedule.now a.times.now c.before.before.before.before.requires.0 a.g
-lent c = let a = c.before.before.before.before.args in rest _ a.tables.now ∙ ap (λ (k : ℕ). drop k a.tables.now) (first_is c)
-
 pub overflow_mul-size : goal.overflow_mul-size
 overflow_mul-size c = omega (arith, square c.args.line.n (limits c.args.line c.args.tables.now c.args.schedule.now c.args.times.now c.requires.0 c.args.g c.requires.1).few_events)
 
@@ -70,13 +64,18 @@ first_broken-requires c =
     let fit : Sizes (get_or c.args.schedule.now c.args.g 0) c.args.line.m c.args.line.n = let a = c.args in let ok = (granted a.line a.tables.now a.schedule.now a.times.now c.requires.0).sheet_ok in
     sizes (get_or a.schedule.now a.g 0) a.line.m a.line.n ok.size.few_events ok.size.few_modes (ok.modes a.g c.requires.1) in
     let long : c.args.line.m * (4 * (c.args.line.n * c.args.line.n)) ≤ length c.args.tables.now = let a = c.args in omega (arith, (granted a.line a.tables.now a.schedule.now a.times.now c.requires.0).sheet_ok.size.long_tables) in
+    let first_is : c.wide.result * (4 * (c.args.line.n * c.args.line.n)) ≡ get_or c.args.schedule.now c.args.g 0 * (4 * (c.args.line.n * c.args.line.n)) = let a = c.args in ap (λ (t : ℕ). t * (4 * (a.line.n * a.line.n))) c.wide.ensures in
+    let lent : let from = c.wide.result * (4 * (c.args.line.n * c.args.line.n)) in take (length c.args.tables.now - from) (drop from c.args.tables.now) ≡ part c.args.line c.args.tables.now c.args.schedule.now c.args.times.now c.requires.0 c.args.g = let a = c.args in rest _ a.tables.now ∙ ap (λ (k : ℕ). drop k a.tables.now) first_is in
     let a = c.args in
     let k = get_or a.schedule.now a.g 0 * (4 * (a.line.n * a.line.n)) in (
       limits a.line a.tables.now a.schedule.now a.times.now c.requires.0 a.g c.requires.1,
-      rw (lent c.before) (omega (arith, length-drop k a.tables.now, fit.part, long)),
-      subst (λ (l : List ℤ). Spreads l a.line a.g a.times.now) (sym (lent c.before)) (spreads a.line a.tables.now a.schedule.now a.times.now c.requires.0 a.g c.requires.1),
+      rw lent (omega (arith, length-drop k a.tables.now, fit.part, long)),
+      subst (λ (l : List ℤ). Spreads l a.line a.g a.times.now) (sym lent) (spreads a.line a.tables.now a.schedule.now a.times.now c.requires.0 a.g c.requires.1),
     )
 
 pub returns : goal.returns
-returns c = let a = c.args in
-    subst (λ (l : List ℤ). First (λ k. breaks_at a.line a.g k (get_or l k (pos 0)) a.times.now) (4 * (a.line.n * a.line.n)) c.first_broken.result) (lent c.before.before) c.first_broken.ensures
+returns c =
+    let first_is : c.wide.result * (4 * (c.args.line.n * c.args.line.n)) ≡ get_or c.args.schedule.now c.args.g 0 * (4 * (c.args.line.n * c.args.line.n)) = let a = c.args in ap (λ (t : ℕ). t * (4 * (a.line.n * a.line.n))) c.wide.ensures in
+    let lent : let from = c.wide.result * (4 * (c.args.line.n * c.args.line.n)) in take (length c.args.tables.now - from) (drop from c.args.tables.now) ≡ part c.args.line c.args.tables.now c.args.schedule.now c.args.times.now c.requires.0 c.args.g = let a = c.args in rest _ a.tables.now ∙ ap (λ (k : ℕ). drop k a.tables.now) first_is in
+    let a = c.args in
+    subst (λ (l : List ℤ). First (λ k. breaks_at a.line a.g k (get_or l k (pos 0)) a.times.now) (4 * (a.line.n * a.line.n)) c.first_broken.result) lent c.first_broken.ensures

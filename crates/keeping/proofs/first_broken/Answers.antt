@@ -12,16 +12,6 @@ use Rattle.keeping.proofs.First.{none_yet, one_more, found, not_found}
 use borrow.Author.Rules.{rules}
 use Rattle.keeping.proofs.first_broken.Goals as goal
 
--- FIXME
--- the test of this turn's place
-here : (c : goal.After-is_broken) → let l = c.before.before.before in let a = l.before.before.args in
-    c.is-broken.result ≡ breaks_at a.line a.g l.loop.k (get_or a.part.now l.loop.k (pos 0)) a.times.now
-here c =
-    let l = c.before.before.before in
-    let a = l.before.before.args in
-    let v = get_or a.part.now l.loop.k (pos 0) in
-    c.is-broken.ensures ∙ ap (λ (w : ℤ). breaks_at a.line a.g l.loop.k w a.times.now) (passed v c.before.is-broken-arg.given)
-
 pub overflow_mul-size : goal.overflow_mul-size
 overflow_mul-size c = omega (arith, square c.args.line.n c.requires.0.few_events)
 
@@ -43,10 +33,18 @@ is_broken-requires c = let v = get_or c.args.part.now c.loop-k.k (pos 0) in
     (record { limits = c.requires.0; inside = c.loop-k-test.true; reach = c.requires.2 c.loop-k.k c.loop-k-test.true })
 
 pub returns-then-is_broken : goal.returns-then-is_broken
-returns-then-is_broken c = found _ _ c.loop-k.k c.loop-k-test.true c.loop-k.invariant.1 (sym (here c.before) ∙ c.if-is_broken.true)
+returns-then-is_broken c =
+    let here : c.is_broken.result ≡ breaks_at c.args.line c.args.g c.loop-k.k (get_or c.args.part.now c.loop-k.k (pos 0)) c.args.times.now = let a = c.args in
+    let v = get_or a.part.now c.loop-k.k (pos 0) in
+    c.is_broken.ensures ∙ ap (λ (w : ℤ). breaks_at a.line a.g c.loop-k.k w a.times.now) (passed v c.is_broken-arg-1.given) in
+    found _ _ c.loop-k.k c.loop-k-test.true c.loop-k.invariant.1 (sym here ∙ c.if-is_broken.true)
 
 pub loop-k-preserved : goal.loop-k-preserved
-loop-k-preserved c = (omega (arith, c.loop-k-test.true), one_more _ c.loop-k.k c.loop-k.invariant.1 (sym (here c.before) ∙ c.if-is_broken.false))
+loop-k-preserved c =
+    let here : c.is_broken.result ≡ breaks_at c.args.line c.args.g c.loop-k.k (get_or c.args.part.now c.loop-k.k (pos 0)) c.args.times.now = let a = c.args in
+    let v = get_or a.part.now c.loop-k.k (pos 0) in
+    c.is_broken.ensures ∙ ap (λ (w : ℤ). breaks_at a.line a.g c.loop-k.k w a.times.now) (passed v c.is_broken-arg-1.given) in
+    (omega (arith, c.loop-k-test.true), one_more _ c.loop-k.k c.loop-k.invariant.1 (sym here ∙ c.if-is_broken.false))
 
 pub returns : goal.returns
 returns c = not_found _ _ c.loop-k.k c.loop-k.invariant.0 c.loop-k-test.false c.loop-k.invariant.1

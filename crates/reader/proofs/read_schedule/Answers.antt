@@ -22,11 +22,6 @@ use Rattle.reader.proofs.read_schedule.Goals as goal
 mode_is : (file : List ℕ) (m p : ℕ) → 1 ≤ m → tested (λ t. ltb t m) 5 (number_at file p) ≡ tested (between 0 (m - 1)) 5 (number_at file p)
 mode_is file m p h = sym (tested_same (between 0 (m - 1)) (λ t. ltb t m) (λ v. below v m h) 5 (number_at file p))
 
--- FIXME
-here : (c : goal.In-Value-2) → let l = c.before.before.before.before in let a = l.before.before.before.args in
-    tested (λ t. ltb t a.m) 5 (number_at a.file.now l.loop.p) ≡ Value c.value.given.0.0 c.value.given.0.1.0 c.value.given.0.1.1.0
-here c = let l = c.before.before.before.before in let s = l.before.before.before in mode_is s.args.file.now s.args.m l.loop.p s.requires.0 ∙ sym c.before.before.number-within.ensures ∙ c.value.given.1
-
 pub loop-h-init : goal.loop-h-init
 loop-h-init c = let a = c.args in
     (omega arith, refl, λ r now h. subst (λ (k : ℕ). Walks (store_modes 0) (schedule_at a.file.now a.m k a.at) a.schedule.now r now) (sub-zero a.positions) h)
@@ -35,7 +30,9 @@ pub overflow_sub-m : goal.overflow_sub-m
 overflow_sub-m c = c.requires.0
 
 pub put_byte-requires : goal.put_byte-requires
-put_byte-requires c = omega (arith, ltb-true c.in-Value.value c.args.m (tested_value _ _ _ _ _ (here c.before.before)).1, c.requires.1)
+put_byte-requires c =
+    let here : tested (λ t. ltb t c.args.m) 5 (number_at c.args.file.now c.loop-h.p) ≡ Value c.in-Value.value c.in-Value.at c.in-Value.next = mode_is c.args.file.now c.args.m c.loop-h.p c.requires.0 ∙ sym c.number_within.ensures ∙ c.in-Value.is in
+    omega (arith, ltb-true c.in-Value.value c.args.m (tested_value _ _ _ _ _ here).1, c.requires.1)
 
 pub returns-in-Refused : goal.returns-in-Refused
 returns-in-Refused c = let a = c.args in
@@ -43,10 +40,12 @@ returns-in-Refused c = let a = c.args in
     (mode_is a.file.now a.m c.loop-h.p c.requires.0 ∙ sym c.number_within.ensures ∙ c.in-Refused.is))
 
 pub loop-h-preserved : goal.loop-h-preserved
-loop-h-preserved c = let a = c.args in (
+loop-h-preserved c =
+    let here : tested (λ t. ltb t c.args.m) 5 (number_at c.args.file.now c.loop-h.p) ≡ Value c.in-Value.value c.in-Value.at c.in-Value.next = mode_is c.args.file.now c.args.m c.loop-h.p c.requires.0 ∙ sym c.number_within.ensures ∙ c.in-Value.is in
+    let a = c.args in (
       omega (arith, c.loop-h-test.true),
       c.put_byte.auto.schedule ∙ c.loop-h.invariant.1,
-      λ r now h. c.loop-h.invariant.2 r now (position_next a.file.now a.m a.positions c.loop-h.h c.loop-h.p c.loop-h.schedule c.loop-h-test.true _ _ _ (here c.before.before.before.before.before) r now
+      λ r now h. c.loop-h.invariant.2 r now (position_next a.file.now a.m a.positions c.loop-h.h c.loop-h.p c.loop-h.schedule c.loop-h-test.true _ _ _ here r now
           (subst (λ (t : List ℕ). Walks (store_modes (c.loop-h.h + 1)) (schedule_at a.file.now a.m (a.positions - (c.loop-h.h + 1)) c.in-Value.next) t r now) c.put_byte.ensures h)),
     )
 

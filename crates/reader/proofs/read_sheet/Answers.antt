@@ -16,13 +16,6 @@ use borrow.Author.Tests.{not-true, not-false}
 use borrow.Author.Rules.{rules}
 use Rattle.reader.proofs.read_sheet.Goals as goal
 
--- FIXME
--- its size against the buffers', as the code has it
-room : (c : goal.In-Done-2) → let f = found c in let g = c.judged.given.0 in let a = c.before.before.before.before.before.before.before.before.before.args in
-    (leb (places f.s.n f.s.m) (length a.tables.now) && leb f.s.positions (length a.schedule.now))
-    ≡ (leb (places g.0 g.1.0) (length a.tables.now) && leb g.1.1.0 (length a.schedule.now))
-room c = let f = found c in rw (f.n_is, f.m_is, f.positions_is)
-
 pub returns-in_default : goal.returns-in_default
 returns-in_default c = let a = c.args in
     reads_refused a.file.now a.tables.now a.schedule.now _ _ c.in_default.is (unfilled _ _ _ _ _ _ _ c.in_default.is c.read_into-judged.ensures)
@@ -60,12 +53,14 @@ overflow_mul-places-3 c =
 pub returns-then-not-is_roomy : goal.returns-then-not-is_roomy
 returns-then-not-is_roomy c =
     let found : Filled (sheet_in c.args.file.now) c.in-Done.n c.in-Done.m c.in-Done.positions = filled _ _ _ _ _ _ _ _ _ c.in-Done.is c.read_into-judged.ensures in
+    let room : let f = found in (leb (places f.s.n f.s.m) (length c.args.tables.now) && leb f.s.positions (length c.args.schedule.now)) ≡ (leb (places c.in-Done.n c.in-Done.m) (length c.args.tables.now) && leb c.in-Done.positions (length c.args.schedule.now)) = let f = found in rw (f.n_is, f.m_is, f.positions_is) in
     let f = found in let a = c.args in
-    reads_short a.file.now a.tables.now a.schedule.now f.s f.next f.is _ (ap read.Refused c.bad.ensures) (room c.before.before.before.before ∙ sym c.is_roomy.ensures ∙ c.if-not-is_roomy.true)
+    reads_short a.file.now a.tables.now a.schedule.now f.s f.next f.is _ (ap read.Refused c.bad.ensures) (room ∙ sym c.is_roomy.ensures ∙ c.if-not-is_roomy.true)
 
 pub returns : goal.returns
 returns c =
     let found : Filled (sheet_in c.args.file.now) c.in-Done.n c.in-Done.m c.in-Done.positions = filled _ _ _ _ _ _ _ _ _ c.in-Done.is c.read_into-judged.ensures in
+    let room : let f = found in (leb (places f.s.n f.s.m) (length c.args.tables.now) && leb f.s.positions (length c.args.schedule.now)) ≡ (leb (places c.in-Done.n c.in-Done.m) (length c.args.tables.now) && leb c.in-Done.positions (length c.args.schedule.now)) = let f = found in rw (f.n_is, f.m_is, f.positions_is) in
     let f = found in
     let a = c.args in
-    reads_done a.file.now a.tables.now a.schedule.now f.s f.next f.is _ _ _ (room c.before.before.before.before.before.before.before.before.before ∙ sym c.is_roomy.ensures ∙ c.if-not-is_roomy.false) c.read_into.ensures
+    reads_done a.file.now a.tables.now a.schedule.now f.s f.next f.is _ _ _ (room ∙ sym c.is_roomy.ensures ∙ c.if-not-is_roomy.false) c.read_into.ensures

@@ -38,13 +38,13 @@ pub overflow_mul-t : goal.overflow_mul-t
 overflow_mul-t c = omega (arith, mul-le-mul {n₁ = c.loop-t.t} {n₂ = 8} (omega (arith, c.requires.1, c.loop-t-test.true)) (few c.args.n c.requires.0))
 
 pub offset_bounds-tables-start : goal.offset_bounds-tables-start
-offset_bounds-tables-start c = omega (arith, c.least-start.ensures.0, c.loop-t.invariant.1, c.well-formed)
+offset_bounds-tables-start c = omega (arith, c.least-start.ensures.0, c.loop-t.invariant.1, c.well_formed)
 
 pub slice_bounds-read_mode-count : goal.slice_bounds-read_mode-count
-slice_bounds-read_mode-count c = omega (arith, c.least-start.ensures.0, c.loop-t.invariant.1, c.well-formed)
+slice_bounds-read_mode-count c = omega (arith, c.least-start.ensures.0, c.loop-t.invariant.1, c.well_formed)
 
 pub slice_bounds-read_mode-start : goal.slice_bounds-read_mode-start
-slice_bounds-read_mode-start c = omega (arith, c.least-start.ensures.0, c.loop-t.invariant.1, c.well-formed)
+slice_bounds-read_mode-start c = omega (arith, c.least-start.ensures.0, c.loop-t.invariant.1, c.well_formed)
 
 pub returns-in-Refused : goal.returns-in-Refused
 returns-in-Refused c = let a = c.args in

@@ -32,13 +32,6 @@ module _ (start low p : ℕ) (v : ℤ) (next : ℕ) where
   unfolding rising
   rising-no h = rw (lt-leb low p h)
 
--- FIXME
-left : (c : goal.Else-code-gt-MOST_CODE) → let k = c.before in let a = k.before.before.before.before.before.args in
-    value_at a.file.now a.start a.low a.place a.at ≡ rising a.start a.low a.place (decoded k.before.read.given.0.0) k.before.read.given.0.1.1.0
-unfolding value_at
-left c = let k = c.before in
-    after_value _ _ _ _ (tested_yes (λ u. in_limit (decoded u)) 6 _ _ _ (code_at k) (in-limit k.before.read.given.0.0 c.if1.false))
-
 pub returns-in_default : goal.returns-in_default
 unfolding value_at
 returns-in_default c = ap refused (refused_is _ _ _ c.refusal.ensures c.in_default.is)
@@ -51,10 +44,18 @@ returns-then-code-gt-MOST_CODE c =
     rw c.bad.ensures (sym (after_refused _ _ _ (tested_no (λ u. in_limit (decoded u)) 6 _ _ _ _ code_at (past-limit c.in-Value.code c.if-code-gt-MOST_CODE.true))))
 
 pub returns-then-place-low : goal.returns-then-place-low
-returns-then-place-low c = rw c.bad-then-place-low.ensures (sym (left c.before.before ∙ rising-no _ _ _ _ _ c.if-place-low.true))
+unfolding value_at
+returns-then-place-low c =
+    let code_at : number_at c.args.file.now c.args.at ≡ Value c.in-Value.code c.in-Value.fourth c.in-Value.next = sym c.number_at-read.ensures ∙ c.in-Value.is in
+    let left : value_at c.args.file.now c.args.start c.args.low c.args.place c.args.at ≡ rising c.args.start c.args.low c.args.place (decoded c.in-Value.code) c.in-Value.next = after_value _ _ _ _ (tested_yes (λ u. in_limit (decoded u)) 6 _ _ _ code_at (in-limit c.in-Value.code c.if-code-gt-MOST_CODE.false)) in
+    rw c.bad-then-place-low.ensures (sym (left ∙ rising-no _ _ _ _ _ c.if-place-low.true))
 
 pub overflow_cast-result : goal.overflow_cast-result
 overflow_cast-result c = omega (arith, c.if-code-gt-MOST_CODE.false)
 
 pub returns : goal.returns
-returns c = sym (left c.before ∙ rising-yes _ _ _ _ _ c.if-place-low.false)
+unfolding value_at
+returns c =
+    let code_at : number_at c.args.file.now c.args.at ≡ Value c.in-Value.code c.in-Value.fourth c.in-Value.next = sym c.number_at-read.ensures ∙ c.in-Value.is in
+    let left : value_at c.args.file.now c.args.start c.args.low c.args.place c.args.at ≡ rising c.args.start c.args.low c.args.place (decoded c.in-Value.code) c.in-Value.next = after_value _ _ _ _ (tested_yes (λ u. in_limit (decoded u)) 6 _ _ _ code_at (in-limit c.in-Value.code c.if-code-gt-MOST_CODE.false)) in
+    sym (left ∙ rising-yes _ _ _ _ _ c.if-place-low.false)

@@ -16,18 +16,14 @@ use lib.IntN.{ℤ}
 use borrow.Author.Rules.{rules}
 use Rattle.records.proofs.read_windows.Goals as goal
 
--- FIXME
--- the record of this turn
-here : (c : goal.In-Placed-2) → let l = c.before.before.before.before in let a = l.before.before.args in
-    record_at a.file.now a.n l.loop.low l.loop.p ≡ got (placed c.place.given.0.0 (decoded c.place.given.0.1.0)) c.place.given.0.1.1.0
-here c = sym c.before.before.read-window.ensures ∙ ap found_part c.place.given.1
-
 pub loop-k-init : goal.loop-k-init
 loop-k-init c = let a = c.args in
     (omega arith, refl, λ r now h. subst (λ (m : ℕ). Walks store (records_at a.file.now a.n m 0 a.at) a.part.now r now) (sub-zero a.count) h)
 
 pub overflow_add-low : goal.overflow_add-low
-overflow_add-low c = omega (arith, place_within _ _ _ _ _ _ (here c.before.before.before.before.before), few c.args.n c.requires)
+overflow_add-low c =
+    let here : record_at c.args.file.now c.args.n c.loop-k.low c.loop-k.p ≡ got (placed c.in-Placed.place (decoded c.in-Placed.code)) c.in-Placed.next = sym c.read_window.ensures ∙ ap found_part c.in-Placed.is in
+    omega (arith, place_within _ _ _ _ _ _ here, few c.args.n c.requires)
 
 pub returns-in-Refused : goal.returns-in-Refused
 returns-in-Refused c = let a = c.args in
@@ -35,12 +31,14 @@ returns-in-Refused c = let a = c.args in
     (sym c.read_window.ensures ∙ ap found_part c.in-Refused.is))
 
 pub loop-k-preserved : goal.loop-k-preserved
-loop-k-preserved c = let a = c.args in
+loop-k-preserved c =
+    let here : record_at c.args.file.now c.args.n c.loop-k.low c.loop-k.p ≡ got (placed c.in-Placed.place (decoded c.in-Placed.code)) c.in-Placed.next = sym c.read_window.ensures ∙ ap found_part c.in-Placed.is in
+    let a = c.args in
     let e : c.put_value.new.part ≡ set c.loop-k.part c.in-Placed.place (decoded c.in-Placed.code) =
-    c.put_value.ensures ∙ ap (λ (z : ℤ). set c.loop-k.part c.in-Placed.place z) (passed c.decode.result c.decode.type-inv ∙ c.decode.ensures) in (
+    c.put_value.ensures ∙ ap (λ (z : ℤ). set c.loop-k.part c.in-Placed.place z) (passed c.decode.result c.decode.type_inv ∙ c.decode.ensures) in (
       omega (arith, c.loop-k-test.true),
       c.put_value.auto.part ∙ c.loop-k.invariant.1,
-      λ r now h. c.loop-k.invariant.2 r now (next a.file.now a.n a.count c.loop-k.k c.loop-k.low c.loop-k.p c.loop-k.part c.loop-k-test.true _ _ (here c.before.before.before.before.before) r now
+      λ r now h. c.loop-k.invariant.2 r now (next a.file.now a.n a.count c.loop-k.k c.loop-k.low c.loop-k.p c.loop-k.part c.loop-k-test.true _ _ here r now
           (subst (λ (t : List ℤ). Walks store (records_at a.file.now a.n (a.count - (c.loop-k.k + 1)) (c.in-Placed.place + 1) c.in-Placed.next) t r now) e h)),
     )
 

@@ -8,38 +8,50 @@ use mathlib.Core.Path.{sym}
 use borrow.Author.Rules.{rules}
 use Rattle.telling.proofs.tell_read.Goals as goal
 
--- FIXME
--- the sheet is in the first places
-leaves : (c : goal.In-Done) → let g = c.before.read2.given.0 in let r = c.before.before.before.before.before.before.read-sheet in let s = c.before.before.before.before.before.before.before.before.before.before.before.before in
-    Leaves s.args.file.now s.args.tables.now s.args.schedule.now s.requires.0 s.requires.1 g.0 g.1.0 g.1.1.0 r.new.1.0 r.new.1.1.0
-leaves c = let r = c.before.before.before.before.before.before.read-sheet in read_leaves _ _ _ _ _ r.result _ _ _ _ _ c.before.read2.given.1 r.ensures
-
 pub overflow_mul-places : goal.overflow_mul-places
-overflow_mul-places c = omega (arith, (leaves_sizes (leaves c)).few_modes)
+overflow_mul-places c =
+    let leaves : Leaves c.args.file.now c.args.tables.now c.args.schedule.now c.requires.0 c.requires.1 c.in-Done.n c.in-Done.m c.in-Done.positions c.read_sheet-read.new.tables c.read_sheet-read.new.schedule = let r = c.read_sheet-read in read_leaves _ _ _ _ _ r.result _ _ _ _ _ c.in-Done.is r.ensures in
+    omega (arith, (leaves_sizes leaves).few_modes)
 
 pub overflow_mul-places-in-Done : goal.overflow_mul-places-in-Done
-overflow_mul-places-in-Done c = omega (arith, square _ (leaves_sizes (leaves c)).few_events)
+overflow_mul-places-in-Done c =
+    let leaves : Leaves c.args.file.now c.args.tables.now c.args.schedule.now c.requires.0 c.requires.1 c.in-Done.n c.in-Done.m c.in-Done.positions c.read_sheet-read.new.tables c.read_sheet-read.new.schedule = let r = c.read_sheet-read in read_leaves _ _ _ _ _ r.result _ _ _ _ _ c.in-Done.is r.ensures in
+    omega (arith, square _ (leaves_sizes leaves).few_events)
 
 pub overflow_mul-places-in-Done-2 : goal.overflow_mul-places-in-Done-2
-overflow_mul-places-in-Done-2 c = omega (arith, leaves_few (leaves c))
+overflow_mul-places-in-Done-2 c =
+    let leaves : Leaves c.args.file.now c.args.tables.now c.args.schedule.now c.requires.0 c.requires.1 c.in-Done.n c.in-Done.m c.in-Done.positions c.read_sheet-read.new.tables c.read_sheet-read.new.schedule = let r = c.read_sheet-read in read_leaves _ _ _ _ _ r.result _ _ _ _ _ c.in-Done.is r.ensures in
+    omega (arith, leaves_few leaves)
 
 pub slice_bounds-tell_admitted-end : goal.slice_bounds-tell_admitted-end
-slice_bounds-tell_admitted-end c = omega (arith, leaves_few (leaves c), c.read_sheet-read.auto.tables)
+slice_bounds-tell_admitted-end c =
+    let leaves : Leaves c.args.file.now c.args.tables.now c.args.schedule.now c.requires.0 c.requires.1 c.in-Done.n c.in-Done.m c.in-Done.positions c.read_sheet-read.new.tables c.read_sheet-read.new.schedule = let r = c.read_sheet-read in read_leaves _ _ _ _ _ r.result _ _ _ _ _ c.in-Done.is r.ensures in
+    omega (arith, leaves_few leaves, c.read_sheet-read.auto.tables)
 
 pub slice_bounds-tell_admitted-end-in-Done : goal.slice_bounds-tell_admitted-end-in-Done
-slice_bounds-tell_admitted-end-in-Done c = let r = c.read_sheet-read in sym (length-take-le _ r.new.1.0 (omega (arith, leaves_few (leaves c.before), r.auto.1.0)))
+slice_bounds-tell_admitted-end-in-Done c =
+    let leaves : Leaves c.args.file.now c.args.tables.now c.args.schedule.now c.requires.0 c.requires.1 c.in-Done.n c.in-Done.m c.in-Done.positions c.read_sheet-read.new.tables c.read_sheet-read.new.schedule = let r = c.read_sheet-read in read_leaves _ _ _ _ _ r.result _ _ _ _ _ c.in-Done.is r.ensures in
+    let r = c.read_sheet-read in sym (length-take-le _ r.new.1.0 (omega (arith, leaves_few leaves, r.auto.1.0)))
 
 pub slice_bounds-tell_admitted-end-in-Done-2 : goal.slice_bounds-tell_admitted-end-in-Done-2
-slice_bounds-tell_admitted-end-in-Done-2 c = omega (arith, (leaves_sizes (leaves c.before)).few_positions, c.read_sheet-read.auto.schedule)
+slice_bounds-tell_admitted-end-in-Done-2 c =
+    let leaves : Leaves c.args.file.now c.args.tables.now c.args.schedule.now c.requires.0 c.requires.1 c.in-Done.n c.in-Done.m c.in-Done.positions c.read_sheet-read.new.tables c.read_sheet-read.new.schedule = let r = c.read_sheet-read in read_leaves _ _ _ _ _ r.result _ _ _ _ _ c.in-Done.is r.ensures in
+    omega (arith, (leaves_sizes leaves).few_positions, c.read_sheet-read.auto.schedule)
 
 pub slice_bounds-tell_admitted-end-in-Done-3 : goal.slice_bounds-tell_admitted-end-in-Done-3
-slice_bounds-tell_admitted-end-in-Done-3 c = let r = c.read_sheet-read in sym (length-take-le _ r.new.1.1.0 (omega (arith, (leaves_sizes (leaves c.before.before)).few_positions, r.auto.1.1.0)))
+slice_bounds-tell_admitted-end-in-Done-3 c =
+    let leaves : Leaves c.args.file.now c.args.tables.now c.args.schedule.now c.requires.0 c.requires.1 c.in-Done.n c.in-Done.m c.in-Done.positions c.read_sheet-read.new.tables c.read_sheet-read.new.schedule = let r = c.read_sheet-read in read_leaves _ _ _ _ _ r.result _ _ _ _ _ c.in-Done.is r.ensures in
+    let r = c.read_sheet-read in sym (length-take-le _ r.new.1.1.0 (omega (arith, (leaves_sizes leaves).few_positions, r.auto.1.1.0)))
 
 pub tell_admitted-requires : goal.tell_admitted-requires
-tell_admitted-requires c = leaves_admitted (leaves c.before.before.before)
+tell_admitted-requires c =
+    let leaves : Leaves c.args.file.now c.args.tables.now c.args.schedule.now c.requires.0 c.requires.1 c.in-Done.n c.in-Done.m c.in-Done.positions c.read_sheet-read.new.tables c.read_sheet-read.new.schedule = let r = c.read_sheet-read in read_leaves _ _ _ _ _ r.result _ _ _ _ _ c.in-Done.is r.ensures in
+    leaves_admitted leaves
 
 pub returns-in-Refused : goal.returns-in-Refused
 returns-in-Refused c = let r = c.read_sheet-read in tells_refused _ _ (read_refused _ _ _ c.requires.0 c.requires.1 r.result _ _ _ c.in-Refused.is r.ensures) c.put_refused.ensures
 
 pub returns-in-Done : goal.returns-in-Done
-returns-in-Done c = tells_got _ _ _ (leaves c.before.before.before.before.before.before).is c.tell_admitted.ensures
+returns-in-Done c =
+    let leaves : Leaves c.args.file.now c.args.tables.now c.args.schedule.now c.requires.0 c.requires.1 c.in-Done.n c.in-Done.m c.in-Done.positions c.read_sheet-read.new.tables c.read_sheet-read.new.schedule = let r = c.read_sheet-read in read_leaves _ _ _ _ _ r.result _ _ _ _ _ c.in-Done.is r.ensures in
+    tells_got _ _ _ leaves.is c.tell_admitted.ensures

@@ -13,6 +13,7 @@ use Rattle.numbers.proofs.Signs.{passed}
 use Rattle.tables.specs.Sheets.{absent}
 use borrow.Author.Rules.{rules}
 use Rattle.writer.proofs.count_windows.Goals as goal
+use Rattle.writer.proofs.count_windows.Goals.{then-not-is_absent, else-not-is_absent}
 
 start : (x : ℕ) {y : ℕ} → x ≡ y → 0 + x ≡ y
 start x e = omega arith
@@ -24,10 +25,10 @@ pub loop-k-preserved : goal.loop-k-preserved
 loop-k-preserved c =
     let here : c.is_absent.result ≡ absent (get_or c.args.part.now c.loop-k.k (pos 0)) = c.is_absent.ensures ∙ ap absent (passed (get_or c.args.part.now c.loop-k.k (pos 0)) c.is_absent-arg-1.given) in
     let a = c.args in
-    ⊎_elim
-    (λ w. let q = count_present a.part.now a.size c.loop-k.k (omega arith) (omega arith) (sym here ∙ not-true _ w.0.taken) in (omega arith, omega arith, omega arith, omega (arith, q, c.loop-k.invariant.3)))
-    (λ w. let q = count_absent a.part.now a.size c.loop-k.k (omega arith) (omega arith) (sym here ∙ not-false _ w.0.left) in (omega arith, omega arith, omega arith, omega (arith, q, c.loop-k.invariant.3)))
-    c.if-not-is_absent.branch
+    elim c.if-not-is_absent.branch [
+      | then-not-is_absent w ↦ let q = count_present a.part.now a.size c.loop-k.k (omega arith) (omega arith) (sym here ∙ w.if-not-is_absent.true) in (omega arith, omega arith, omega arith, omega (arith, q, c.loop-k.invariant.3))
+      | else-not-is_absent w ↦ let q = count_absent a.part.now a.size c.loop-k.k (omega arith) (omega arith) (sym here ∙ w.if-not-is_absent.false) in (omega arith, omega arith, omega arith, omega (arith, q, c.loop-k.invariant.3))
+    ]
 
 pub returns : goal.returns
 returns c = let a = c.args in omega (arith, c.loop-k.invariant.3, ap length (left_none a.part.now a.size c.loop-k.k c.loop-k-test.false))

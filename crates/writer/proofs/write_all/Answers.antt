@@ -21,48 +21,38 @@ write_number-b-requires c =
 
 pub write_number-c-requires : goal.write_number-c-requires
 write_number-c-requires c =
-    let E2 : tie.Start = c.before.before.before.before.before.before.before.before in
     let one : state c.write_number-a.result c.write_number-a.new.out ≡ run c.args.out.now 0 (1 ∷ []) = c.write_number-a.ensures in
-    let two : state c.write_number-b.result c.write_number-b.new.out ≡ run E2.args.out.now 0 (1 ∷ E2.args.n ∷ []) = run_more _ _ _ _ _ one _ _ _ c.write_number-b.ensures in
+    let two : state c.write_number-b.result c.write_number-b.new.out ≡ run c.args.out.now 0 (1 ∷ c.args.n ∷ []) = run_more _ _ _ _ _ one _ _ _ c.write_number-b.ensures in
     omega (arith, run_few _ _ _ _ _ two)
 
 pub write_number-d-requires : goal.write_number-d-requires
 write_number-d-requires c =
-    let E2 : tie.Start = c.before.before.before.before.before.before.before.before in
-    let E3 : tie.Start = E2 in
     let one : state c.write_number-a.result c.write_number-a.new.out ≡ run c.args.out.now 0 (1 ∷ []) = c.write_number-a.ensures in
-    let two : state c.write_number-b.result c.write_number-b.new.out ≡ run E2.args.out.now 0 (1 ∷ E2.args.n ∷ []) = run_more _ _ _ _ _ one _ _ _ c.write_number-b.ensures in
-    let three : state c.write_number-c.result c.write_number-c.new.out ≡ run E3.args.out.now 0 (1 ∷ E3.args.n ∷ E3.args.m ∷ []) = run_more _ _ _ _ _ two _ _ _ c.write_number-c.ensures in
+    let two : state c.write_number-b.result c.write_number-b.new.out ≡ run c.args.out.now 0 (1 ∷ c.args.n ∷ []) = run_more _ _ _ _ _ one _ _ _ c.write_number-b.ensures in
+    let three : state c.write_number-c.result c.write_number-c.new.out ≡ run c.args.out.now 0 (1 ∷ c.args.n ∷ c.args.m ∷ []) = run_more _ _ _ _ _ two _ _ _ c.write_number-c.ensures in
     omega (arith, run_few _ _ _ _ _ three)
 
 pub write_schedule-e-requires : goal.write_schedule-e-requires
 write_schedule-e-requires c =
     let S : Sheet = let a = c.args in sheet a.n a.m a.positions a.tables.now a.schedule.now in
     let sizes : Sizes S = (accepted S c.requires).size in
-    let E2 : tie.Start = c.before.before.before.before.before.before.before.before in
-    let E3 : tie.Start = E2 in
-    let E4 : tie.Start = E3 in
     let one : state c.write_number-a.result c.write_number-a.new.out ≡ run c.args.out.now 0 (1 ∷ []) = c.write_number-a.ensures in
-    let two : state c.write_number-b.result c.write_number-b.new.out ≡ run E2.args.out.now 0 (1 ∷ E2.args.n ∷ []) = run_more _ _ _ _ _ one _ _ _ c.write_number-b.ensures in
-    let three : state c.write_number-c.result c.write_number-c.new.out ≡ run E3.args.out.now 0 (1 ∷ E3.args.n ∷ E3.args.m ∷ []) = run_more _ _ _ _ _ two _ _ _ c.write_number-c.ensures in
-    let four : state c.write_number-d.result c.write_number-d.new.out ≡ run E4.args.out.now 0 (1 ∷ E4.args.n ∷ E4.args.m ∷ E4.args.positions ∷ []) = run_more _ _ _ _ _ three _ _ _ c.write_number-d.ensures in
-    let z = sizes E4 in (z.few_positions, z.long_schedule, omega (arith, run_few _ _ _ _ _ four))
+    let two : state c.write_number-b.result c.write_number-b.new.out ≡ run c.args.out.now 0 (1 ∷ c.args.n ∷ []) = run_more _ _ _ _ _ one _ _ _ c.write_number-b.ensures in
+    let three : state c.write_number-c.result c.write_number-c.new.out ≡ run c.args.out.now 0 (1 ∷ c.args.n ∷ c.args.m ∷ []) = run_more _ _ _ _ _ two _ _ _ c.write_number-c.ensures in
+    let four : state c.write_number-d.result c.write_number-d.new.out ≡ run c.args.out.now 0 (1 ∷ c.args.n ∷ c.args.m ∷ c.args.positions ∷ []) = run_more _ _ _ _ _ three _ _ _ c.write_number-d.ensures in
+    let z = sizes in (z.few_positions, z.long_schedule, omega (arith, run_few _ _ _ _ _ four))
 
 pub write_modes-requires : goal.write_modes-requires
 write_modes-requires c =
     let S : Sheet = let a = c.args in sheet a.n a.m a.positions a.tables.now a.schedule.now in
     let sizes : Sizes S = (accepted S c.requires).size in
-    let E2 : tie.Start = c.before.before.before.before.before.before.before.before in
-    let E3 : tie.Start = E2 in
-    let E4 : tie.Start = E3 in
-    let E5 : tie.Start = E4 in
     let one : state c.write_number-a.result c.write_number-a.new.out ≡ run c.args.out.now 0 (1 ∷ []) = c.write_number-a.ensures in
-    let two : state c.write_number-b.result c.write_number-b.new.out ≡ run E2.args.out.now 0 (1 ∷ E2.args.n ∷ []) = run_more _ _ _ _ _ one _ _ _ c.write_number-b.ensures in
-    let three : state c.write_number-c.result c.write_number-c.new.out ≡ run E3.args.out.now 0 (1 ∷ E3.args.n ∷ E3.args.m ∷ []) = run_more _ _ _ _ _ two _ _ _ c.write_number-c.ensures in
-    let four : state c.write_number-d.result c.write_number-d.new.out ≡ run E4.args.out.now 0 (1 ∷ E4.args.n ∷ E4.args.m ∷ E4.args.positions ∷ []) = run_more _ _ _ _ _ three _ _ _ c.write_number-d.ensures in
-    let five : state c.write_schedule-e.result c.write_schedule-e.new.out ≡ run E5.args.out.now 0 (1 ∷ E5.args.n ∷ E5.args.m ∷ E5.args.positions ∷ take E5.args.positions E5.args.schedule.now) = run_more _ _ _ _ _ four _ _ _ c.write_schedule-e.ensures in
-    let z = sizes E5 in
-    let a = E5.args in (
+    let two : state c.write_number-b.result c.write_number-b.new.out ≡ run c.args.out.now 0 (1 ∷ c.args.n ∷ []) = run_more _ _ _ _ _ one _ _ _ c.write_number-b.ensures in
+    let three : state c.write_number-c.result c.write_number-c.new.out ≡ run c.args.out.now 0 (1 ∷ c.args.n ∷ c.args.m ∷ []) = run_more _ _ _ _ _ two _ _ _ c.write_number-c.ensures in
+    let four : state c.write_number-d.result c.write_number-d.new.out ≡ run c.args.out.now 0 (1 ∷ c.args.n ∷ c.args.m ∷ c.args.positions ∷ []) = run_more _ _ _ _ _ three _ _ _ c.write_number-d.ensures in
+    let five : state c.write_schedule-e.result c.write_schedule-e.new.out ≡ run c.args.out.now 0 (1 ∷ c.args.n ∷ c.args.m ∷ c.args.positions ∷ take c.args.positions c.args.schedule.now) = run_more _ _ _ _ _ four _ _ _ c.write_schedule-e.ensures in
+    let z = sizes in
+    let a = c.args in (
       z.some_events,
       z.few_events,
       z.few_modes,
@@ -73,13 +63,9 @@ write_modes-requires c =
 pub returns : goal.returns
 unfolding sheet_numbers
 returns c =
-    let E2 : tie.Start = c.before.before.before.before.before.before.before.before in
-    let E3 : tie.Start = E2 in
-    let E4 : tie.Start = E3 in
-    let E5 : tie.Start = E4 in
     let one : state c.write_number-a.result c.write_number-a.new.out ≡ run c.args.out.now 0 (1 ∷ []) = c.write_number-a.ensures in
-    let two : state c.write_number-b.result c.write_number-b.new.out ≡ run E2.args.out.now 0 (1 ∷ E2.args.n ∷ []) = run_more _ _ _ _ _ one _ _ _ c.write_number-b.ensures in
-    let three : state c.write_number-c.result c.write_number-c.new.out ≡ run E3.args.out.now 0 (1 ∷ E3.args.n ∷ E3.args.m ∷ []) = run_more _ _ _ _ _ two _ _ _ c.write_number-c.ensures in
-    let four : state c.write_number-d.result c.write_number-d.new.out ≡ run E4.args.out.now 0 (1 ∷ E4.args.n ∷ E4.args.m ∷ E4.args.positions ∷ []) = run_more _ _ _ _ _ three _ _ _ c.write_number-d.ensures in
-    let five : state c.write_schedule-e.result c.write_schedule-e.new.out ≡ run E5.args.out.now 0 (1 ∷ E5.args.n ∷ E5.args.m ∷ E5.args.positions ∷ take E5.args.positions E5.args.schedule.now) = run_more _ _ _ _ _ four _ _ _ c.write_schedule-e.ensures in
+    let two : state c.write_number-b.result c.write_number-b.new.out ≡ run c.args.out.now 0 (1 ∷ c.args.n ∷ []) = run_more _ _ _ _ _ one _ _ _ c.write_number-b.ensures in
+    let three : state c.write_number-c.result c.write_number-c.new.out ≡ run c.args.out.now 0 (1 ∷ c.args.n ∷ c.args.m ∷ []) = run_more _ _ _ _ _ two _ _ _ c.write_number-c.ensures in
+    let four : state c.write_number-d.result c.write_number-d.new.out ≡ run c.args.out.now 0 (1 ∷ c.args.n ∷ c.args.m ∷ c.args.positions ∷ []) = run_more _ _ _ _ _ three _ _ _ c.write_number-d.ensures in
+    let five : state c.write_schedule-e.result c.write_schedule-e.new.out ≡ run c.args.out.now 0 (1 ∷ c.args.n ∷ c.args.m ∷ c.args.positions ∷ take c.args.positions c.args.schedule.now) = run_more _ _ _ _ _ four _ _ _ c.write_schedule-e.ensures in
     run_more _ _ _ _ _ five _ _ _ c.write_modes.ensures

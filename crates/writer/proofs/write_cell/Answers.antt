@@ -14,5 +14,5 @@ returns-then-is_absent c = rw (sym (ap absent (passed c.args.value c.ranges.valu
 
 pub returns : goal.returns
 unfolding cell records
-returns c = let e : c.number_of_lem.result ≡ encoded c.args.value = c.number_of_lem.ensures ∙ c.encode.ensures ∙ ap encoded (passed c.args.value c.ranges.value.sfits) in
+returns c = let e : c.number_of.result ≡ encoded c.args.value = c.number_of.ensures ∙ c.encode.ensures ∙ ap encoded (passed c.args.value c.ranges.value.sfits) in
     rw (sym (ap absent (passed c.args.value c.ranges.value.sfits)) ∙ sym c.is_absent.ensures ∙ c.if-is_absent.false) (rw e at c.write_window.ensures)

@@ -17,6 +17,9 @@ use Rattle.writer.proofs.write_modes.Goals as goal
 nothing : (k : ℕ) → 0 * k ≡ 0
 nothing k = omega arith
 
+suc-is : (t k : ℕ) → suc t * k ≡ t * k + k
+suc-is t k = suc-mul t k
+
 pub overflow_mul-size : goal.overflow_mul-size
 overflow_mul-size c = omega (arith, few c.args.n c.requires.1)
 
@@ -36,10 +39,7 @@ overflow_mul-start c =
     let fit : (c.loop-t.t * (4 * (c.args.n * c.args.n)) + 4 * (c.args.n * c.args.n) ≤ length c.args.tables.now) × (c.loop-t.t * (4 * (c.args.n * c.args.n)) ≤ 4608) = let k = 4 * (c.args.n * c.args.n) in (
       omega (arith, mul-le-mul_right k c.loop-t-test.true, add-mul c.loop-t.t 1 k, c.requires.3, suc-is c.loop-t.t k),
       mul-le-mul {n₁ = c.loop-t.t} {n₂ = 8} (omega (arith, c.loop-t-test.true, c.requires.2)) (few c.args.n c.requires.1),
-    )
-  where
-    suc-is : (t k : ℕ) → suc t * k ≡ t * k + k
-    suc-is t k = suc-mul t k in
+    ) in
     omega (arith, fit.1)
 
 pub offset_bounds-tables-start : goal.offset_bounds-tables-start
@@ -47,10 +47,7 @@ offset_bounds-tables-start c =
     let fit : (c.loop-t.t * (4 * (c.args.n * c.args.n)) + 4 * (c.args.n * c.args.n) ≤ length c.args.tables.now) × (c.loop-t.t * (4 * (c.args.n * c.args.n)) ≤ 4608) = let k = 4 * (c.args.n * c.args.n) in (
       omega (arith, mul-le-mul_right k c.loop-t-test.true, add-mul c.loop-t.t 1 k, c.requires.3, suc-is c.loop-t.t k),
       mul-le-mul {n₁ = c.loop-t.t} {n₂ = 8} (omega (arith, c.loop-t-test.true, c.requires.2)) (few c.args.n c.requires.1),
-    )
-  where
-    suc-is : (t k : ℕ) → suc t * k ≡ t * k + k
-    suc-is t k = suc-mul t k in
+    ) in
     let f = fit in omega (arith, f.0, f.1)
 
 pub slice_bounds-write_mode-count : goal.slice_bounds-write_mode-count
@@ -58,10 +55,7 @@ slice_bounds-write_mode-count c =
     let fit : (c.loop-t.t * (4 * (c.args.n * c.args.n)) + 4 * (c.args.n * c.args.n) ≤ length c.args.tables.now) × (c.loop-t.t * (4 * (c.args.n * c.args.n)) ≤ 4608) = let k = 4 * (c.args.n * c.args.n) in (
       omega (arith, mul-le-mul_right k c.loop-t-test.true, add-mul c.loop-t.t 1 k, c.requires.3, suc-is c.loop-t.t k),
       mul-le-mul {n₁ = c.loop-t.t} {n₂ = 8} (omega (arith, c.loop-t-test.true, c.requires.2)) (few c.args.n c.requires.1),
-    )
-  where
-    suc-is : (t k : ℕ) → suc t * k ≡ t * k + k
-    suc-is t k = suc-mul t k in
+    ) in
     let f = fit in omega (arith, f.0, f.1)
 
 pub slice_bounds-write_mode-start : goal.slice_bounds-write_mode-start
@@ -69,10 +63,7 @@ slice_bounds-write_mode-start c =
     let fit : (c.loop-t.t * (4 * (c.args.n * c.args.n)) + 4 * (c.args.n * c.args.n) ≤ length c.args.tables.now) × (c.loop-t.t * (4 * (c.args.n * c.args.n)) ≤ 4608) = let k = 4 * (c.args.n * c.args.n) in (
       omega (arith, mul-le-mul_right k c.loop-t-test.true, add-mul c.loop-t.t 1 k, c.requires.3, suc-is c.loop-t.t k),
       mul-le-mul {n₁ = c.loop-t.t} {n₂ = 8} (omega (arith, c.loop-t-test.true, c.requires.2)) (few c.args.n c.requires.1),
-    )
-  where
-    suc-is : (t k : ℕ) → suc t * k ≡ t * k + k
-    suc-is t k = suc-mul t k in
+    ) in
     let f = fit in omega (arith, f.0, f.1)
 
 pub slice_bounds-write_mode-end : goal.slice_bounds-write_mode-end
@@ -80,10 +71,7 @@ slice_bounds-write_mode-end c =
     let fit : (c.loop-t.t * (4 * (c.args.n * c.args.n)) + 4 * (c.args.n * c.args.n) ≤ length c.args.tables.now) × (c.loop-t.t * (4 * (c.args.n * c.args.n)) ≤ 4608) = let k = 4 * (c.args.n * c.args.n) in (
       omega (arith, mul-le-mul_right k c.loop-t-test.true, add-mul c.loop-t.t 1 k, c.requires.3, suc-is c.loop-t.t k),
       mul-le-mul {n₁ = c.loop-t.t} {n₂ = 8} (omega (arith, c.loop-t-test.true, c.requires.2)) (few c.args.n c.requires.1),
-    )
-  where
-    suc-is : (t k : ℕ) → suc t * k ≡ t * k + k
-    suc-is t k = suc-mul t k in
+    ) in
     let f = fit in omega (arith, f.0, f.1)
 
 pub write_mode-p-requires : goal.write_mode-p-requires
@@ -91,10 +79,7 @@ write_mode-p-requires c =
     let fit : (c.loop-t.t * (4 * (c.args.n * c.args.n)) + 4 * (c.args.n * c.args.n) ≤ length c.args.tables.now) × (c.loop-t.t * (4 * (c.args.n * c.args.n)) ≤ 4608) = let k = 4 * (c.args.n * c.args.n) in (
       omega (arith, mul-le-mul_right k c.loop-t-test.true, add-mul c.loop-t.t 1 k, c.requires.3, suc-is c.loop-t.t k),
       mul-le-mul {n₁ = c.loop-t.t} {n₂ = 8} (omega (arith, c.loop-t-test.true, c.requires.2)) (few c.args.n c.requires.1),
-    )
-  where
-    suc-is : (t k : ℕ) → suc t * k ≡ t * k + k
-    suc-is t k = suc-mul t k in
+    ) in
     let f = fit in
     let b = c.loop-t.t * (4 * (c.args.n * c.args.n)) in
     (c.requires.0, c.requires.1, rw (rest_all b c.args.tables.now) (omega (arith, length-drop b c.args.tables.now, f.0)), omega (arith, c.loop-t.invariant.2, c.loop-t.invariant.0, c.requires.2, c.requires.4))
@@ -104,10 +89,7 @@ loop-t-preserved c =
     let fit : (c.loop-t.t * (4 * (c.args.n * c.args.n)) + 4 * (c.args.n * c.args.n) ≤ length c.args.tables.now) × (c.loop-t.t * (4 * (c.args.n * c.args.n)) ≤ 4608) = let k = 4 * (c.args.n * c.args.n) in (
       omega (arith, mul-le-mul_right k c.loop-t-test.true, add-mul c.loop-t.t 1 k, c.requires.3, suc-is c.loop-t.t k),
       mul-le-mul {n₁ = c.loop-t.t} {n₂ = 8} (omega (arith, c.loop-t-test.true, c.requires.2)) (few c.args.n c.requires.1),
-    )
-  where
-    suc-is : (t k : ℕ) → suc t * k ≡ t * k + k
-    suc-is t k = suc-mul t k in
+    ) in
     let a = c.args in
     let b = c.loop-t.t * (4 * (a.n * a.n)) in
     let e : state c.write_mode-p.result c.write_mode-p.new.out ≡ run c.loop-t.out c.loop-t.p (mode_numbers a.n (take (4 * (a.n * a.n)) (drop b a.tables.now))) =
