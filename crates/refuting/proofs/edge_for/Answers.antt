@@ -32,4 +32,4 @@ pub returns : goal.returns
 returns c =
     let S : Sheet = let a = c.args in sheet_of a.line a.tables.now a.schedule.now in
     let l = c.limit_of-value in let a = c.args in
-    c.edge_at.ensures ∙ edge_same S a.line.p a.line.q a.arc _ (passed l.result l.type-inv ∙ l.ensures)
+    c.edge_at.ensures ∙ edge_same S a.line.p a.line.q a.arc _ (passed l.result l.type_inv ∙ l.ensures)

@@ -19,4 +19,4 @@ limit_of-value-requires c = (c.requires, sym c.is_named.ensures ∙ c.if-not-is_
 pub returns : goal.returns
 returns c =
     let S : Sheet = let a = c.args in sheet_of a.line a.tables.now a.schedule.now in
-    let l = c.limit_of-value in present_is S c.args.arc _ _ c.is_named.ensures (c.if-not-is_named.false) (c.is_absent.ensures ∙ ap absent (passed l.result l.type-inv ∙ l.ensures))
+    let l = c.limit_of-value in present_is S c.args.arc _ _ c.is_named.ensures (c.if-not-is_named.false) (c.is_absent.ensures ∙ ap absent (passed l.result l.type_inv ∙ l.ensures))

@@ -9,4 +9,4 @@ pub limit-requires : goal.limit-requires
 limit-requires c = let a = c.args in named_place (sheet_of a.line a.tables.now a.schedule.now) c.requires.0.admitted a.arc c.requires.1
 
 pub returns : goal.returns
-returns c = passed c.limit.result c.limit.type-inv ∙ c.limit.ensures
+returns c = passed c.limit.result c.limit.type_inv ∙ c.limit.ensures
