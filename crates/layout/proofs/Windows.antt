@@ -2,7 +2,7 @@
 -- (kind·n + to - 1)·n + from - 1, so rising places are rising kinds, then tos, then froms.
 use mathlib.Core.Path.{◌≡◌, refl, sym, ap, ap₂, ◌∙◌}
 use mathlib.Core.Bool.{Bool, true, false, cond}
-use mathlib.Core.List.{List, [], ◌∷◌, ◌++◌, map, map_append, append_assoc, append-nil}
+use mathlib.Core.List.{List, [], ◌∷◌, ◌++◌, map, map-append, append_assoc, append-nil}
 use Prim.Native.Nat.{ℕ, zero, suc, ◌+◌, ◌-◌, ◌*◌, ◌≤◌, ◌<◌}
 use native.Mathlib.Omega.{arith}
 use lib.IntN.{ℤ, pos}
@@ -18,7 +18,7 @@ use Rattle.layout.specs.Records.{records_in, mode_records}
 
 each_map : {A B C : Type 0} (f : A → B) (cs : List C) (g : C → List A) → each cs (λ c. map f (g c)) ≡ map f (each cs g)
 each_map f [] g = refl
-each_map f (c ∷ cs) g = ap (λ (l : List _). map f (g c) ++ l) (each_map f cs g) ∙ sym (map_append f (g c) (each cs g))
+each_map f (c ∷ cs) g = ap (λ (l : List _). map f (g c) ++ l) (each_map f cs g) ∙ sym (map-append f (g c) (each cs g))
 
 -- f 0, f 1, .., f (k - 1), joined
 up_to : {A : Type 0} → (ℕ → List A) → ℕ → List A

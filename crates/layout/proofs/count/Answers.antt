@@ -16,6 +16,7 @@ use Rattle.layout.specs.Records.{records_in}
 use Rattle.layout.proofs.Laying.{records_few, records_skip, records_one}
 use borrow.Author.Rules.{rules}
 use Rattle.layout.proofs.count.Goals as goal
+use Rattle.layout.proofs.count.Goals.{then-not-is_absent, else-not-is_absent}
 
 pub overflow_mul-size : goal.overflow_mul-size
 overflow_mul-size c = omega (arith, square c.args.n c.requires.1)
@@ -44,8 +45,8 @@ loop-k-preserved c = let a = c.args in
     let e = ap absent (sym (passed v c.is_absent-arg-1.given)) ∙ sym c.is_absent.ensures in (
       omega (arith, c.loop-k-test.true),
       elim c.if-not-is_absent.branch [
-        | inl r ↦ rw (records_one a.part.now a.n c.loop-k.k v refl (e ∙ not-true _ r.0.taken)) (omega (arith, r.1, c.loop-k.invariant.1, length-append (records_in a.part.now a.n c.loop-k.k) (from_place a.n c.loop-k.k v ∷ [])))
-        | inr r ↦ rw (records_skip a.part.now a.n c.loop-k.k v refl (e ∙ not-false _ r.0.left)) (r.1 ∙ c.loop-k.invariant.1)
+        | then-not-is_absent r ↦ rw (records_one a.part.now a.n c.loop-k.k v refl (e ∙ r.if-not-is_absent.true)) (omega (arith, r.w-is, c.loop-k.invariant.1, length-append (records_in a.part.now a.n c.loop-k.k) (from_place a.n c.loop-k.k v ∷ [])))
+        | else-not-is_absent r ↦ rw (records_skip a.part.now a.n c.loop-k.k v refl (e ∙ r.if-not-is_absent.false)) (r.w-is ∙ c.loop-k.invariant.1)
       ],
     )
 

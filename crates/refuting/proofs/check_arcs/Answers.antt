@@ -21,7 +21,7 @@ returns-then-not-is_timed c =
     let S : Sheet = let a = c.args in sheet a.n a.m a.positions a.tables.now a.schedule.now in
     let clean : 0 ≡ refusal S = sym c.if-refusal-ne0.false ∙ c.judge-refusal.ensures in
     let a = c.args in
-    (refused _ refl (refused_10 S a.p a.q a.arcs.now clean (sym c.is_timed.ensures ∙ c.if-not-is_timed.true)) (λ c.before.before. omega arith), (omega arith, omega arith))
+    (refused _ refl (refused_10 S a.p a.q a.arcs.now clean (sym c.is_timed.ensures ∙ c.if-not-is_timed.true)) (λ e. omega arith), (omega arith, omega arith))
 
 pub judge-requires : goal.judge-requires
 judge-requires c =

@@ -16,13 +16,13 @@ pub is_apart-requires : goal.is_apart-requires
 is_apart-requires c = let l = c.loop-k in (c.requires, l.invariant.0, c.loop-k-test.true)
 
 pub returns-then-not-is_apart : goal.returns-then-not-is_apart
-returns-then-not-is_apart c = let g = c.is_apart in let l = c.loop-k in once_not _ _ _ _ _ c.requires l.k c.loop-k-test.true (told_false g.result (not-true g.result c.if-not-is_apart.true) g.ensures)
+returns-then-not-is_apart c = let g = c.is_apart in let l = c.loop-k in once_not _ _ _ _ _ c.requires l.k c.loop-k-test.true (told_false g.result (c.if-not-is_apart.true) g.ensures)
 
 pub loop-k-preserved : goal.loop-k-preserved
 loop-k-preserved c = let g = c.is_apart in let l = c.loop-k in let a = c.args in (
   omega arith,
   omega (arith, c.loop-k-test.true),
-  below_more (Apart (sheet_of a.line a.tables.now a.schedule.now) a.line.p a.line.q a.arcs.now) l.k l.invariant.2 (told_true g.result (not-false g.result c.if-not-is_apart.false) g.ensures),
+  below_more (Apart (sheet_of a.line a.tables.now a.schedule.now) a.line.p a.line.q a.arcs.now) l.k l.invariant.2 (told_true g.result (c.if-not-is_apart.false) g.ensures),
 )
 
 pub returns : goal.returns

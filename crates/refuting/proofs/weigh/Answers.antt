@@ -16,16 +16,16 @@ is_above-above-requires c = (c.requires.0, once_few _ _ _ _ _ c.requires.0 c.req
 pub returns-then-not-smallest : goal.returns-then-not-smallest
 returns-then-not-smallest c =
     let S : Sheet = let a = c.args in sheet_of a.line a.tables.now a.schedule.now in
-    let t = c.starts_smallest-smallest in (larger_is _ _ _ _ _ c.requires.0 c.requires.1 c.requires.2 (known S c.args.arcs.now (λ a. FirstSmallest (departures a)) t.result false (not-true t.result c.if-not-smallest.true) t.ensures), tt)
+    let t = c.starts_smallest-smallest in (larger_is _ _ _ _ _ c.requires.0 c.requires.1 c.requires.2 (known S c.args.arcs.now (λ a. FirstSmallest (departures a)) t.result false (c.if-not-smallest.true) t.ensures), tt)
 
 pub returns-then-not-above : goal.returns-then-not-above
 returns-then-not-above c =
     let S : Sheet = let a = c.args in sheet_of a.line a.tables.now a.schedule.now in
     let smallest : TellsOf S c.args.arcs.now (λ a. FirstSmallest (departures a)) true = let t = c.starts_smallest-smallest in
-    known S c.args.arcs.now (λ a. FirstSmallest (departures a)) t.result true (not-false t.result c.if-not-smallest.false) t.ensures in
+    known S c.args.arcs.now (λ a. FirstSmallest (departures a)) t.result true (c.if-not-smallest.false) t.ensures in
     let t = c.is_above-above in (
   below_is _ _ _ _ _ c.requires.0 c.requires.1 c.requires.2 smallest
-      (known S c.args.arcs.now (Above c.args.line.p c.args.line.q) t.result false (not-true t.result c.if-not-above.true) t.ensures),
+      (known S c.args.arcs.now (Above c.args.line.p c.args.line.q) t.result false (c.if-not-above.true) t.ensures),
   tt,
 )
 
@@ -33,9 +33,9 @@ pub returns : goal.returns
 returns c =
     let S : Sheet = let a = c.args in sheet_of a.line a.tables.now a.schedule.now in
     let smallest : TellsOf S c.args.arcs.now (λ a. FirstSmallest (departures a)) true = let t = c.starts_smallest-smallest in
-    known S c.args.arcs.now (λ a. FirstSmallest (departures a)) t.result true (not-false t.result c.if-not-smallest.false) t.ensures in
+    known S c.args.arcs.now (λ a. FirstSmallest (departures a)) t.result true (c.if-not-smallest.false) t.ensures in
     let t = c.is_above-above in (
   accepted_is _ _ _ _ _ c.requires.0 c.requires.1 c.requires.2 smallest
-      (known S c.args.arcs.now (Above c.args.line.p c.args.line.q) t.result true (not-false t.result c.if-not-above.false) t.ensures),
+      (known S c.args.arcs.now (Above c.args.line.p c.args.line.q) t.result true (c.if-not-above.false) t.ensures),
   tt,
 )
