@@ -129,8 +129,8 @@ fn broken(n: usize, g: usize, k: usize) -> TimesHeld
 
 // The first place broken at the position g + 1, in its mode's part of the tables.
 fn first_at(line: Line, tables: &[i32], schedule: &[u8], g: usize, times: &[i64]) -> usize
-    requires times_value { times_refusal (sheet_of line tables.now schedule.now) line.p line.q times.now ≡ 0 }
-    requires g_lt_positions { g < line.positions }
+    requires clean { times_refusal (sheet_of line tables.now schedule.now) line.p line.q times.now ≡ 0 }
+    requires inside { g < line.positions }
     ensures { First (breaks line tables.now schedule.now times.now g) (4 * (line.n * line.n)) result }
 {
     let size = 4 * (line.n * line.n);

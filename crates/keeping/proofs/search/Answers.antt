@@ -27,7 +27,7 @@ pub loop-g-init : goal.loop-g-init
 loop-g-init c = (omega arith, λ h l. absurd (omega arith))
 
 pub first_at-k-requires : goal.first_at-k-requires
-first_at-k-requires c = (c.requires, omega (arith, c.loop-g-test.true))
+first_at-k-requires c = record { clean = c.requires; inside = omega (arith, c.loop-g-test.true) }
 
 pub broken-requires : goal.broken-requires
 broken-requires c = let a = c.args in

@@ -18,4 +18,4 @@ pub returns-in-3 : goal.returns-in-3
 returns-in-3 c = c.sums-in-3.ensures ∙ kind_3 _ _ _ _ c.in-3.is
 
 pub returns-in-4-to-255 : goal.returns-in-4-to-255
-returns-in-4-to-255 c = let r = c.in-0.rest in c.sums-in-4-to-255.ensures ∙ kind_past _ _ _ _ (omega (arith, r.1, r.0.1, r.0.0.1, r.0.0.0.1))
+returns-in-4-to-255 c = c.sums-in-4-to-255.ensures ∙ kind_past _ _ _ _ (omega arith)
