@@ -41,6 +41,7 @@ AllIn N [] = Unit {0}
 AllIn N (a ∷ rest) = Inside a.edge N 2000000000 × AllIn N rest
 
 pub all_in : (N : ℕ) (arcs : List Named) → AllIn N arcs → {a : Named} → Memᴰ a arcs → Inside a.edge N 2000000000
+all_in N [] h {a = a} m = elim m [ ]
 all_in N (b ∷ rest) h (Memᴰ.head e) = rw e h.0
 all_in N (b ∷ rest) h (Memᴰ.tail m) = all_in N rest h.1 m
 
