@@ -7,6 +7,7 @@ use Rattle.theory.proofs.Backs.{back_none}
 use Rattle.circuits.proofs.Ways.{sound_here, Going, going_none, going_few, going_less, going_more, going_round}
 use borrow.Author.Rules.{rules}
 use Rattle.circuits.proofs.go_round.Goals as goal
+use Rattle.circuits.proofs.go_round.Goals.{then-x-least, else-x-least}
 
 pub offset_bounds-row-u : goal.offset_bounds-row-u
 offset_bounds-row-u c = let a = c.args in omega (arith, c.requires.0.rowed.few, sound_here a.row.now a.n a.positions a.u c.requires.0 0 a.u (back_none (before a.row.now) a.u))
@@ -42,10 +43,10 @@ loop-x-smaller c =
 pub loop-x-preserved : goal.loop-x-preserved
 loop-x-preserved c = let a = c.args in
     let b = before a.row.now in
-    ⊎_elim
-    (λ w. rw w.1 (going_less b a.u c.loop-x.least c.loop-x.count c.loop-x.x c.loop-x.invariant c.loop-x-test.true c.departure-x-in-loop-x.result c.departure-x-in-loop-x.ensures (omega (arith, w.0.taken))))
-    (λ w. rw w.1 (going_more b a.u c.loop-x.least c.loop-x.count c.loop-x.x c.loop-x.invariant c.loop-x-test.true c.departure-x-in-loop-x.result c.departure-x-in-loop-x.ensures (omega (arith, w.0.left))))
-    c.if-x-least.branch
+    elim c.if-x-least.branch [
+      | then-x-least w ↦ rw w.least-is (going_less b a.u c.loop-x.least c.loop-x.count c.loop-x.x c.loop-x.invariant c.loop-x-test.true c.departure-x-in-loop-x.result c.departure-x-in-loop-x.ensures (omega (arith, w.if-x-least.true)))
+      | else-x-least w ↦ rw w.least-is (going_more b a.u c.loop-x.least c.loop-x.count c.loop-x.x c.loop-x.invariant c.loop-x-test.true c.departure-x-in-loop-x.result c.departure-x-in-loop-x.ensures (omega (arith, w.if-x-least.false)))
+    ]
 
 pub returns : goal.returns
 returns c = let a = c.args in going_round (before a.row.now) a.u c.loop-x.least c.loop-x.count c.loop-x.x c.loop-x.invariant c.loop-x-test.false

@@ -34,5 +34,5 @@ unfolding places_of
 returns-in-3 c = let a = c.args in arm 3 a.kind a.u a.v c.in-3.is
 
 pub returns-in-4-to-65535 : goal.returns-in-4-to-65535
-returns-in-4-to-65535 c = let a = c.args in let r = c.in-0.rest in
-    other a.kind a.u a.v (omega (arith, r.1, r.0.1, r.0.0.1, r.0.0.0.1))
+returns-in-4-to-65535 c = let a = c.args in
+    other a.kind a.u a.v (omega arith)

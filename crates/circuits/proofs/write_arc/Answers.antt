@@ -67,4 +67,4 @@ returns c =
     let ends-are : c.places_of-arc.result ≡ places_of (c.args.mark % 8) (c.args.mark / 8) c.args.v = let a = c.args in c.places_of-arc.ensures ∙ ap (λ (u : ℕ). places_of (a.mark % 8) u a.v) c.departure-u.ensures in
     let a = c.args in let r = c.places_of-arc.result in
     four a.circuit.now a.at (a.mark % 8) (r.here / a.n + 1) (r.to % a.n + 1) (r.from % a.n + 1)
-    ∙ ap (λ (c.before.before.before : Places). sets a.circuit.now a.at ((a.mark % 8) ∷ (c.here / a.n + 1) ∷ (c.to % a.n + 1) ∷ (c.from % a.n + 1) ∷ [])) ends-are
+    ∙ ap (λ (e : Places). sets a.circuit.now a.at ((a.mark % 8) ∷ (e.here / a.n + 1) ∷ (e.to % a.n + 1) ∷ (e.from % a.n + 1) ∷ [])) ends-are
