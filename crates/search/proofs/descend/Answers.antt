@@ -8,6 +8,3 @@ descend_by-next-requires c = fall_asks _ _ _ _ (overhead_hangs _ _ _ _ c.require
 
 pub descend_from-requires : goal.descend_from-requires
 descend_from-requires c = (fall_next _ _ _ _ (overhead_hangs _ _ _ _ c.requires) _ _ c.judge_at.ensures _ _ c.in-Above.is _ _ c.descend_by-next.ensures).0
-
-pub returns-in-Works : goal.returns-in-Works
-returns-in-Works c = (fall_works _ _ _ _ c.judge_at.ensures c.in-Works.is).0
