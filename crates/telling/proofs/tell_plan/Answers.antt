@@ -14,7 +14,7 @@ put_plan-requires c = let ok = accepted _ c.requires.0.admitted in
 
 pub returns-in-Accepted : goal.returns-in-Accepted
 returns-in-Accepted c = let a = c.ask in
-    asked_plan _ _ _ c.requires.0 _ _ c.requires.1 c.requires.2 a.result _ _ a.ensures _ c.in-Accepted.is (a.auto.1.1.1.1.1.1.1.0 ∙ c.requires.1) c.put_plan.ensures
+    asked_plan _ _ _ c.requires.0 _ _ c.requires.1 c.requires.2 a.result _ _ a.ensures _ c.in-Accepted.is (a.auto.plan ∙ c.requires.1) c.put_plan.ensures
 
 pub returns-in-Refuted : goal.returns-in-Refuted
 returns-in-Refuted c = let a = c.ask in absurd (asked_refuted _ _ _ c.requires.0 _ _ c.requires.1 c.requires.2 a.result _ _ a.ensures _ c.in-Refuted.is)

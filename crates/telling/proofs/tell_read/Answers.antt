@@ -31,7 +31,7 @@ slice_bounds-tell_admitted-end c =
 pub slice_bounds-tell_admitted-end-in-Done : goal.slice_bounds-tell_admitted-end-in-Done
 slice_bounds-tell_admitted-end-in-Done c =
     let leaves : Leaves c.args.file.now c.args.tables.now c.args.schedule.now c.requires.0 c.requires.1 c.in-Done.n c.in-Done.m c.in-Done.positions c.read_sheet-read.new.tables c.read_sheet-read.new.schedule = let r = c.read_sheet-read in read_leaves _ _ _ _ _ r.result _ _ _ _ _ c.in-Done.is r.ensures in
-    let r = c.read_sheet-read in sym (length-take-le _ r.new.1.0 (omega (arith, leaves_few leaves, r.auto.1.0)))
+    let r = c.read_sheet-read in sym (length-take-le _ r.new.tables (omega (arith, leaves_few leaves, r.auto.tables)))
 
 pub slice_bounds-tell_admitted-end-in-Done-2 : goal.slice_bounds-tell_admitted-end-in-Done-2
 slice_bounds-tell_admitted-end-in-Done-2 c =
@@ -41,7 +41,7 @@ slice_bounds-tell_admitted-end-in-Done-2 c =
 pub slice_bounds-tell_admitted-end-in-Done-3 : goal.slice_bounds-tell_admitted-end-in-Done-3
 slice_bounds-tell_admitted-end-in-Done-3 c =
     let leaves : Leaves c.args.file.now c.args.tables.now c.args.schedule.now c.requires.0 c.requires.1 c.in-Done.n c.in-Done.m c.in-Done.positions c.read_sheet-read.new.tables c.read_sheet-read.new.schedule = let r = c.read_sheet-read in read_leaves _ _ _ _ _ r.result _ _ _ _ _ c.in-Done.is r.ensures in
-    let r = c.read_sheet-read in sym (length-take-le _ r.new.1.1.0 (omega (arith, (leaves_sizes leaves).few_positions, r.auto.1.1.0)))
+    let r = c.read_sheet-read in sym (length-take-le _ r.new.schedule (omega (arith, (leaves_sizes leaves).few_positions, r.auto.schedule)))
 
 pub tell_admitted-requires : goal.tell_admitted-requires
 tell_admitted-requires c =
