@@ -1,6 +1,7 @@
 // Answers in numbers: the number of a call's answer, and the values that are returned with it, in a list.
 // This crate knows the answers of the reader, the writer, Ask and Ends; tests and benchmarks take these from C, and no part of the product does.
 #![tactic(auto)]
+
 ghost use Rattle.reader.specs.Answers.{answer_read};
 ghost use Rattle.writer.specs.Answers.{answer_written};
 ghost use Rattle.ask.specs.Answers.{answer_asked};

@@ -2,6 +2,7 @@
 // This crate knows the earliest plan with its count of rounds, and when a circuit is given instead; it knows no file.
 // It renders document 01's "Rounds", "Circuits" and the line on Ask in "Numbers a call can answer".
 #![tactic(auto)]
+
 ghost use Rattle.std.specs.Prelude.{◌≡◌, ◌*◌, ◌≤◌, length};
 ghost use Rattle.tables.specs.Sheets.{sheet};
 ghost use Rattle.calls.specs.Ask.{ask_refusal, Outcome};

@@ -2,6 +2,7 @@
 // This crate knows which call follows which; the calls themselves are below it.
 // It renders document 02's E2, "Hold another engine's answer to the sheet", over a sheet file.
 #![tactic(auto)]
+
 ghost use Rattle.std.specs.Prelude.{◌≡◌, [], ◌∷◌, length};
 ghost use Rattle.tables.specs.Answers as form;
 ghost use Rattle.calls.specs.Checker.{HeldTimes, HeldArcs};

@@ -2,6 +2,7 @@
 // This crate knows marks and the arcs that they name; it knows no time, and runs no round.
 // It renders document 01's "Circuits".
 #![tactic(auto)]
+
 ghost use Rattle.std.specs.Prelude.{◌≡◌, ℕ, ◌+◌, ◌*◌, ◌/◌, ◌≤◌, ◌<◌, length};
 ghost use Rattle.std.proofs.lemmas.List.Edits.{sets};
 ghost use Rattle.theory.specs.Backs.{Returns};

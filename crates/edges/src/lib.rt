@@ -2,6 +2,7 @@
 // This crate knows one window and one arc; it knows no list of them, no table of times and no circuit.
 // It renders document 01's "Arcs".
 #![tactic(auto)]
+
 ghost use Rattle.std.specs.Prelude.{◌≡◌, ◌-◌, ◌*◌, ◌≤◌, ◌<◌, length, get_or};
 ghost use Rattle.tables.specs.Sheets.{sheet, place};
 ghost use Rattle.windows.specs.Arcs.{up, down};

@@ -2,6 +2,7 @@
 // This crate knows the order of these lines; it knows neither how Ends finds them nor how an arc is spelled.
 // It renders document 01's "The report", its lines before the plan.
 #![tactic(auto)]
+
 ghost use Rattle.std.specs.Prelude.{◌+◌, ◌*◌, ◌≤◌, ◌<◌, length};
 ghost use Rattle.text.specs.Text.{Puts};
 ghost use Rattle.ends.specs.Answers.{highest};

@@ -2,6 +2,7 @@
 // This crate knows low, high, "open" and "none" with the circuits that show them; it knows no file.
 // It renders document 01's "Ends" and the line on Ends in "Numbers a call can answer".
 #![tactic(auto)]
+
 ghost use Rattle.std.specs.Prelude.{◌≡◌, length};
 ghost use Rattle.tables.specs.Sheets.{sheet};
 ghost use Rattle.calls.specs.Ends.{ends_refusal, Outcome};

@@ -2,6 +2,7 @@
 // This crate knows two numbers at a time; it knows no circuit and no cycle time.
 // It renders document 01's "fractions in lowest terms, with bottom at least 1".
 #![tactic(auto)]
+
 ghost use Rattle.std.specs.Prelude.{◌<◌};
 ghost use Rattle.theory.specs.Ends.{Greatest, Reduces};
 

@@ -2,6 +2,7 @@
 // This crate knows which call follows which; the calls themselves are below it.
 // It renders document 01's "The hoist controller's host is a C program".
 #![tactic(auto)]
+
 ghost use Rattle.std.specs.Prelude.{◌≡◌, length};
 ghost use Rattle.tables.specs.Sheets.{sheet, refusal, timed};
 ghost use Rattle.ask.specs.Answers.{answer_asked};

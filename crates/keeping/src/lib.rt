@@ -2,6 +2,7 @@
 // This crate knows times of either sign, and one window after the other; it knows no way to find a plan.
 // It renders document 02's E2, "Hold another engine's answer to the sheet", for proposed times.
 #![tactic(auto)]
+
 ghost use Rattle.std.specs.Prelude.{◌≡◌, true, ◌&&◌, ◌*◌, ◌≤◌, ◌<◌, leb, pos, length, take, get_or};
 ghost use Rattle.tables.specs.Sheets.{all, sheet};
 ghost use Rattle.calls.specs.ProposedTimes.{in_reach, times_refusal};

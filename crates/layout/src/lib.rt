@@ -2,6 +2,7 @@
 // This crate knows the list; it knows no arc, no table of times and no round.
 // It renders document 01's "laid out once as a list of records".
 #![tactic(auto)]
+
 ghost use Rattle.std.specs.Prelude.{◌≡◌, ◌*◌, ◌≤◌, ◌<◌, length};
 ghost use Rattle.layout.specs.Records.{records_in, laid_out, Laid, Starts, Ahead};
 

@@ -2,6 +2,7 @@
 // This crate knows four sums at a time; it knows no arc and no sheet.
 // It renders document 01's "a circuit's total with q = 1 is W + c·(cycle time)" and the limits W/(-c) and -W/c of "Ends".
 #![tactic(auto)]
+
 ghost use Rattle.std.specs.Prelude.{◌-◌, ◌≤◌, ◌<◌};
 ghost use Rattle.theory.specs.Ends.{Reduces};
 ghost use Rattle.limits.specs.Limits.{Leads};

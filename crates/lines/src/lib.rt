@@ -2,6 +2,7 @@
 // This crate knows how numbers, arcs, circuits, plans and refusals are spelled; it knows no call that gives them.
 // It renders the lines of document 01's "The report", with a refusal's place (document 02, E1).
 #![tactic(auto)]
+
 ghost use Rattle.std.specs.Prelude.{◌∷◌, map, ◌+◌, ◌*◌, ◌≤◌, ◌<◌, length, take, drop};
 ghost use Rattle.text.specs.Text.{decimal, space, Puts};
 ghost use Rattle.lines.specs.Lines.{following, fraction, numbers_line, refused_line};

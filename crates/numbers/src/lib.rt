@@ -2,6 +2,7 @@
 // This crate knows one number at a time, and the form in which a file is refused; it knows no sheet.
 // It renders document 01's "All numbers are in groups of seven bits" and "Value v is written as 2v", and document 02's E1: a number's place.
 #![tactic(auto)]
+
 ghost use Rattle.std.specs.Prelude.{◌≡◌, ◌≤◌, ◌<◌, length};
 ghost use Rattle.std.proofs.lemmas.List.Edits.{sets};
 ghost use Rattle.numbers.specs.Groups as spec;

@@ -1,6 +1,7 @@
 // The calls as tests and benchmarks reach them, through C: each answers its number, and what is returned with it goes into a lent list.
 // This crate knows every public call and adds nothing to them; no part of the product uses it.
 #![tactic(auto)]
+
 ghost use Rattle.std.specs.Prelude.{◌≡◌};
 ghost use Rattle.tables.specs.Sheets.{sheet};
 ghost use Rattle.sheet.specs.File.{sheet_in};

@@ -3,6 +3,7 @@
 // and no cycle time.
 // It renders document 01's "The sheet file" for the reader, and document 02's E1: a refusal has its place.
 #![tactic(auto)]
+
 ghost use Rattle.std.specs.Prelude.{◌≡◌, ◌≤◌, ◌<◌, set};
 ghost use Rattle.std.proofs.lemmas.List.Edits.{sets};
 ghost use Rattle.sheet.specs.File.{schedule_at, counts, counts_at, tables_at, sheet_after, sheet_in};

@@ -4,6 +4,7 @@
 // It renders document 01's "a count and that many records of kind, to, from, value" and the reader's refusals 6 and 7, with
 // the places of document 02's E1.
 #![tactic(auto)]
+
 ghost use Rattle.std.specs.Prelude.{◌≡◌, ◌*◌, ◌≤◌, ◌<◌, leb, set, replicate};
 ghost use Rattle.std.proofs.lemmas.List.Edits.{sets};
 ghost use Rattle.numbers.specs.Groups.{number_at};

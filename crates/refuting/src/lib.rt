@@ -2,6 +2,7 @@
 // This crate knows a list of arcs of any length, four numbers each; it knows no plan, runs no round and finds no circuit.
 // It renders the list of arcs of document 02's E2, "Hold another engine's answer to the sheet".
 #![tactic(auto)]
+
 ghost use Rattle.std.specs.Prelude.{◌≡◌, true, ◌&&◌, ℕ, ◌+◌, ◌*◌, ◌%◌, ◌≤◌, ◌<◌, leb, eqb, length};
 ghost use Rattle.theory.specs.Circuits.{Distinct, departures, FirstSmallest, Above};
 ghost use Rattle.tables.specs.Sheets.{sheet, refusal, timed};

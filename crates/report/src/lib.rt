@@ -2,6 +2,7 @@
 // This crate knows how much of a file is judged and how much room a report takes; the program around it only reads and writes.
 // It renders document 01's "The report".
 #![tactic(auto)]
+
 ghost use Rattle.report.specs.Report.{Outcome};
 ghost use Rattle.report.specs.Told.{answer_told};
 

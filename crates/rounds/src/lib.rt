@@ -2,6 +2,7 @@
 // This crate knows how they begin, over a list laid out once, and what they come to; it knows no plan and no circuit.
 // It renders document 01's "Rounds".
 #![tactic(auto)]
+
 ghost use Rattle.std.specs.Prelude.{◌≡◌, List, ◌*◌, ◌≤◌, length, replicate};
 ghost use Rattle.edges.specs.declared.Record.{Record};
 ghost use Rattle.layout.specs.Records.{laid_out, Laid};

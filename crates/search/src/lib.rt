@@ -2,6 +2,7 @@
 // This crate knows where the search stands, with a circuit that led there; it knows no answer of Ends.
 // It renders the limits of document 01's "Ends", which are the ends.
 #![tactic(auto)]
+
 pub mod buffers;
 
 ghost use Rattle.std.specs.Prelude.{◌≡◌, length};

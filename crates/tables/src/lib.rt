@@ -2,6 +2,7 @@
 // This crate knows what is admitted there (refusals 4, 5 and 6), and which cycle times are (10); it knows no file and no plan.
 // It renders document 01's "Numbers and room".
 #![tactic(auto)]
+
 ghost use Rattle.std.specs.Prelude.{◌≡◌, ◌&&◌, ◌≤◌, leb, ltb, length, take};
 ghost use Rattle.tables.specs.Sheets.{within, admits, absent, all, sheet, sized, refusal, timed};
 

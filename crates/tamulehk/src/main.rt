@@ -1,23 +1,40 @@
 // The report program: a sheet on standard input, its report on standard output.
 // It only reads and writes: the report is crate `report`'s. An unreadable standard input counts as empty.
 #![tactic(auto)]
-use libc::{STDIN_FILENO, STDOUT_FILENO};
+
+ghost use Rattle.std.specs.Prelude.{◌≤◌, length};
+
 use report::Told;
+use std::io;
+use std::io::{Read, Write};
+
+// Fills a buffer from a reader, and gives how many bytes were read: to the reader's end, or as far as the buffer goes. A read that fails ends
+// the file there.
+fn fill<R: Read>(reader: &mut R, file: &mut [u8]) -> usize
+    ensures { result ≤ length file.new }
+{
+    let mut done = 0;
+    while done < file.len() {
+        match reader.read(&mut file[done..]) {
+            Ok(0) | Err(_) => return done,
+            Ok(count) => done += count,
+        }
+    }
+    done
+}
 
 // Writes the report of a file's bytes out, by way of a buffer with room for every report.
-fn print(file: &[u8], out: &mut [u8]) {
+fn print<W: Write>(writer: &mut W, file: &[u8], out: &mut [u8]) -> io::Result<()> {
     match report::report(file, out) {
-        Told::Written { length } => {
-            io::write_all(STDOUT_FILENO, &out[..length]);
-        }
-        Told::Refused { number: _ } => {}
+        Told::Written { length } => writer.write_all(&out[..length]),
+        Told::Refused { number: _ } => Ok(()),
     }
 }
 
-// Of a longer file only so many bytes are judged, and so no more are read. A read that fails midway ends the file there.
-fn main() {
+// Of a longer file only so many bytes are judged, and so no more are read.
+fn main(rt: HostRuntime) -> io::Result<()> {
     let mut file = [0u8; report::JUDGED];
-    let count = io::read_full(STDIN_FILENO, &mut file);
+    let count = fill(&mut rt.stdin(), &mut file);
     let mut out = [0u8; report::ROOM];
-    print(&file[..count], &mut out);
+    print(&mut rt.stdout(), &file[..count], &mut out)
 }

@@ -2,6 +2,7 @@
 // This crate knows which call answers what; it knows no spelling, and not how much of a file is judged.
 // It renders document 01's "The report", and document 02's E1 in it.
 #![tactic(auto)]
+
 ghost use Rattle.std.specs.Prelude.{◌≡◌, ◌⊎◌, ◌≤◌, length};
 ghost use Rattle.tables.specs.Sheets.{sheet, refusal};
 ghost use Rattle.sheet.specs.File.{sheet_in};

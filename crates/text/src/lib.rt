@@ -2,6 +2,7 @@
 // This crate knows places in a buffer and how a number is spelled; it knows no report.
 // It renders document 01's "Words and numbers are parted by one space" and "Each line ends in one line feed".
 #![tactic(auto)]
+
 ghost use Rattle.std.specs.Prelude.{◌≡◌, [], ◌∷◌, ◌+◌, ◌≤◌, ◌<◌, length};
 ghost use Rattle.text.specs.Text.{spelled, decimal, Puts};
 

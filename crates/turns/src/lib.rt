@@ -2,6 +2,7 @@
 // This crate knows the tables of times, the marks, and what all rounds over a list of records mean; it walks no list itself.
 // It renders document 01's "Rounds".
 #![tactic(auto)]
+
 ghost use Rattle.std.specs.Prelude.{◌≡◌, ◌+◌, ◌-◌, ◌*◌, ◌≤◌, ◌<◌, length};
 ghost use Rattle.turns.specs.Rounds.{named, site_of, Able, board, raise, turn_of, Posed, Differs, Filled, Next};
 

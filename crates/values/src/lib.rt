@@ -1,6 +1,7 @@
 // An answer in numbers, and how it is handed over through C: its number returned, its values put into a lent list.
 // This crate knows the form; it knows no call.
 #![tactic(auto)]
+
 ghost use Rattle.std.specs.Prelude.{◌≡◌, ◌≤◌, set, length};
 ghost use Rattle.std.proofs.lemmas.List.Edits.{sets};
 ghost use Rattle.values.specs.Answers.{values_of};

@@ -2,6 +2,7 @@
 // This crate knows the two answers on a proposal, of times and of arcs; it judges none.
 // Which number a wrong proposal gets is ours to choose (docs/DECISIONS.md); document 02's E2 says which values come with it.
 #![tactic(auto)]
+
 ghost use Rattle.std.specs.Prelude.{[]};
 ghost use Rattle.tables.specs.Answers as form;
 ghost use Rattle.keeping.specs.Answers.{answer_times};

@@ -2,6 +2,7 @@
 // This crate knows how the list is lent, a mode's part at each position where it stands; what an arc and a turn do is in `turns`.
 // It renders document 01's "laid out once as a list of records and each round walks the list". Both functions are proved by hand.
 #![tactic(auto)]
+
 ghost use Rattle.std.specs.Prelude.{◌≡◌, ℕ, ◌*◌, ◌<◌, length, get_or};
 ghost use Rattle.layout.specs.Records.{listed};
 ghost use Rattle.turns.specs.Rounds.{Able, board, after, passed, round_of, turn_of, Posed, Parts, Ran};

@@ -2,6 +2,7 @@
 // This crate knows a circuit's four numbers an arc and what each adds; it knows no cycle time.
 // It renders document 01's weights and crossings of "Arcs", and W and c of "Circuits".
 #![tactic(auto)]
+
 ghost use Rattle.std.specs.Prelude.{◌≡◌, ◌/◌, ◌+◌, ◌*◌, ◌≤◌, ◌<◌, length};
 ghost use Rattle.tables.specs.Sheets.{sheet};
 ghost use Rattle.edges.specs.Naming.{NamesPlace};

@@ -2,6 +2,7 @@
 // This crate knows a sheet in memory and the file's order; it knows no plan and no cycle time, and nothing of the reader.
 // It renders document 01's "The sheet file" for the writer.
 #![tactic(auto)]
+
 ghost use Rattle.std.specs.Prelude.{◌≡◌, [], ◌∷◌, ◌+◌, ◌-◌, ◌*◌, ◌/◌, ◌%◌, ◌≤◌, length, take, drop};
 ghost use Rattle.tables.specs.Sheets.{sheet, refusal};
 ghost use Rattle.sheet.specs.Written.{cell, placed_of, records, mode_numbers, modes_numbers, sheet_numbers};

@@ -36,13 +36,13 @@ run-last-requires c =
       mode = λ h l. omega (arith, g.sheet_ok.modes h l, g.sheet_ok.size.few_modes);
     } in
     let z = G.sheet_ok.size in (
-  posed,
-  z.few_modes,
-  omega (arith, z.long_tables),
-  (λ l is. parts S G.sheet_ok c.args.p c.args.q l c.starts-start.result (laid l is)),
-  c.zeros-times.ensures,
-  length-replicate {A = ℕ} 192 0,
-)
+      posed,
+      z.few_modes,
+      omega (arith, z.long_tables),
+      (λ l is. parts S G.sheet_ok c.args.p c.args.q l c.starts-start.result (laid l is)),
+      c.zeros-times.ensures,
+      length-replicate {A = ℕ} 192 0,
+    )
 
 pub finish-requires : goal.finish-requires
 finish-requires c =
@@ -50,13 +50,13 @@ finish-requires c =
     let G : Granted S c.args.p c.args.q c.args.plan.now c.args.circuit.now = granted S c.args.p c.args.q c.args.plan.now c.args.circuit.now c.requires in
     let laid : (l : List Record) → Laid (laid_out c.args.tables.now c.args.n c.args.m) l → Modes c.args.tables.now c.args.n l c.starts-start.result c.args.m = λ l. let a = c.args in modes a.tables.now a.n c.starts-start.result a.m c.starts-start.ensures l in
     let a = c.args in let g = G in let few = nodes_few S g.sheet_ok in let e = c.run-last.ensures in (
-  leads S g.sheet_ok a.p a.q e.0 c.starts-start.result (laid e.0 e.1) c.run-last.result.rounds c.run-last.result.node c.run-last.new.times c.run-last.new.row e.2
-      (omega (arith, few, c.run-last.auto.row, length-replicate {A = ℕ} 192 0)),
-  few,
-  omega (arith, few, c.run-last.auto.times, ap length c.zeros-times.ensures, length-replicate {A = ℕ} 192 0),
-  g.plan_long,
-  omega (arith, g.circuit_long),
-)
+      leads S g.sheet_ok a.p a.q e.0 c.starts-start.result (laid e.0 e.1) c.run-last.result.rounds c.run-last.result.node c.run-last.new.times c.run-last.new.row e.2
+          (omega (arith, few, c.run-last.auto.row, length-replicate {A = ℕ} 192 0)),
+      few,
+      omega (arith, few, c.run-last.auto.times, ap length c.zeros-times.ensures, length-replicate {A = ℕ} 192 0),
+      g.plan_long,
+      omega (arith, g.circuit_long),
+    )
 
 pub returns : goal.returns
 returns c =

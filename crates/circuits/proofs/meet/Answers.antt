@@ -41,9 +41,9 @@ loop-seen-preserved c =
     let here : c.loop-seen.u < length c.loop-seen.seen = let a = c.args in
     omega (arith, c.loop-seen.invariant.0, c.requires.1.room, passed_here a.row.now a.n a.positions a.v c.requires.0 c.loop-seen.seen c.loop-seen.u c.loop-seen.invariant.1) in
     let a = c.args in (
-  length-set c.loop-seen.seen c.loop-seen.u 1 ∙ c.loop-seen.invariant.0,
-  passed_more a.row.now a.n a.positions a.v c.requires.0 c.loop-seen.seen c.loop-seen.u c.loop-seen.invariant.1 c.loop-seen-test.true here c.departure-u.result c.departure-u.ensures,
-)
+      length-set c.loop-seen.seen c.loop-seen.u 1 ∙ c.loop-seen.invariant.0,
+      passed_more a.row.now a.n a.positions a.v c.requires.0 c.loop-seen.seen c.loop-seen.u c.loop-seen.invariant.1 c.loop-seen-test.true here c.departure-u.result c.departure-u.ensures,
+    )
 
 pub returns : goal.returns
 returns c = let a = c.args in

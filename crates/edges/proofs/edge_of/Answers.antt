@@ -69,5 +69,5 @@ returns-in-3 c =
     c.between-in-3.ensures ∙ ap₂ (λ (u d : ℕ). edge (a.next + a.w.to - 1) (a.here + a.w.from - 1) (a.q * d + a.cross) (a.q * u)) up_is down_is ∙ arm 3 a.w a.q a.here a.next a.cross c.in-3.is
 
 pub returns-in-4-to-255 : goal.returns-in-4-to-255
-returns-in-4-to-255 c =  let a = c.args in
+returns-in-4-to-255 c = let a = c.args in
     c.between-in-4-to-255.ensures ∙ other a.w.kind a.w a.q a.here a.next a.cross (omega arith)

@@ -27,10 +27,10 @@ place_of-at-requires c = let names = c.requires in
 
 pub offset_bounds-tables-at : goal.offset_bounds-tables-at
 offset_bounds-tables-at c = omega (
-      arith,
-      (place_is _ _ _ _ _ c.requires _ _ _ _ _ _ c.wide.ensures c.mode_at-t.ensures
-          c.wide-2.ensures c.wide-3.ensures c.wide-4.ensures c.place_of-at.ensures).0,
-    )
+  arith,
+  (place_is _ _ _ _ _ c.requires _ _ _ _ _ _ c.wide.ensures c.mode_at-t.ensures
+      c.wide-2.ensures c.wide-3.ensures c.wide-4.ensures c.place_of-at.ensures).0,
+)
 
 pub bounds-tables-at : goal.bounds-tables-at
 bounds-tables-at c = (place_is _ _ _ _ _ c.requires _ _ _ _ _ _ c.wide.ensures c.mode_at-t.ensures

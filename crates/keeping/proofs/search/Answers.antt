@@ -41,14 +41,14 @@ returns-then-k-size c = let a = c.args in
 
 pub loop-g-preserved : goal.loop-g-preserved
 loop-g-preserved c = let a = c.args in (
-      omega (arith, c.loop-g-test.true),
-      λ h below k inside. elim (dec_lt h c.loop-g.g) [
-        | yes e ↦ c.loop-g.invariant.1 h e k inside
-        | no e ↦
-            let same : c.loop-g.g ≡ h = omega arith in
-            subst (λ (g : ℕ). breaks a.line a.tables.now a.schedule.now a.times.now g k ≡ false) same (c.first_at-k.ensures.before k (omega (arith, c.if-k-size.false)))
-      ],
-    )
+  omega (arith, c.loop-g-test.true),
+  λ h below k inside. elim (dec_lt h c.loop-g.g) [
+    | yes e ↦ c.loop-g.invariant.1 h e k inside
+    | no e ↦
+        let same : c.loop-g.g ≡ h = omega arith in
+        subst (λ (g : ℕ). breaks a.line a.tables.now a.schedule.now a.times.now g k ≡ false) same (c.first_at-k.ensures.before k (omega (arith, c.if-k-size.false)))
+  ],
+)
 
 pub returns : goal.returns
 returns c = let a = c.args in

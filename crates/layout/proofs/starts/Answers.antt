@@ -80,10 +80,10 @@ unfolding mode_records
 loop-t-preserved c =
     let counted : c.count-windows.result ≡ length (mode_records c.args.tables.now c.args.n c.loop-t.t) = let a = c.args in rw (rest (c.loop-t.t * (4 * (a.n * a.n))) a.tables.now) at c.count-windows.ensures in
     let a = c.args in (
-  omega (arith, c.loop-t-test.true),
-  length-set c.loop-t.start (c.loop-t.t + 1) (get_or c.loop-t.start c.loop-t.t 0 + c.count-windows.result) ∙ c.loop-t.invariant.1,
-  starts_more a.tables.now a.n c.loop-t.start c.loop-t.t c.loop-t.invariant.2 c.count-windows.result counted (omega (arith, c.loop-t.invariant.1, c.requires.2, c.loop-t-test.true)),
-)
+      omega (arith, c.loop-t-test.true),
+      length-set c.loop-t.start (c.loop-t.t + 1) (get_or c.loop-t.start c.loop-t.t 0 + c.count-windows.result) ∙ c.loop-t.invariant.1,
+      starts_more a.tables.now a.n c.loop-t.start c.loop-t.t c.loop-t.invariant.2 c.count-windows.result counted (omega (arith, c.loop-t.invariant.1, c.requires.2, c.loop-t-test.true)),
+    )
 
 pub returns : goal.returns
 returns c = let a = c.args in

@@ -24,10 +24,10 @@ returns-then-not-above c =
     let smallest : TellsOf S c.args.arcs.now (λ a. FirstSmallest (departures a)) true = let t = c.starts_smallest-smallest in
     known S c.args.arcs.now (λ a. FirstSmallest (departures a)) t.result true (c.if-not-smallest.false) t.ensures in
     let t = c.is_above-above in (
-  below_is _ _ _ _ _ c.requires.0 c.requires.1 c.requires.2 smallest
-      (known S c.args.arcs.now (Above c.args.line.p c.args.line.q) t.result false (c.if-not-above.true) t.ensures),
-  tt,
-)
+      below_is _ _ _ _ _ c.requires.0 c.requires.1 c.requires.2 smallest
+          (known S c.args.arcs.now (Above c.args.line.p c.args.line.q) t.result false (c.if-not-above.true) t.ensures),
+      tt,
+    )
 
 pub returns : goal.returns
 returns c =
@@ -35,7 +35,7 @@ returns c =
     let smallest : TellsOf S c.args.arcs.now (λ a. FirstSmallest (departures a)) true = let t = c.starts_smallest-smallest in
     known S c.args.arcs.now (λ a. FirstSmallest (departures a)) t.result true (c.if-not-smallest.false) t.ensures in
     let t = c.is_above-above in (
-  accepted_is _ _ _ _ _ c.requires.0 c.requires.1 c.requires.2 smallest
-      (known S c.args.arcs.now (Above c.args.line.p c.args.line.q) t.result true (c.if-not-above.false) t.ensures),
-  tt,
-)
+      accepted_is _ _ _ _ _ c.requires.0 c.requires.1 c.requires.2 smallest
+          (known S c.args.arcs.now (Above c.args.line.p c.args.line.q) t.result true (c.if-not-above.false) t.ensures),
+      tt,
+    )

@@ -27,11 +27,10 @@ pub loop-k-smaller : goal.loop-k-smaller
 loop-k-smaller c = omega arith
 
 pub loop-k-preserved : goal.loop-k-preserved
-loop-k-preserved c = let h = c.loop-k-test.true in
-    (
-      omega (arith, h),
-      stores_more c.args.values.now c.args.a.values _ _ c.loop-k.k (omega (arith, h, c.requires)) c.loop-k.invariant.1 c.put.ensures,
-    )
+loop-k-preserved c = let h = c.loop-k-test.true in (
+  omega (arith, h),
+  stores_more c.args.values.now c.args.a.values _ _ c.loop-k.k (omega (arith, h, c.requires)) c.loop-k.invariant.1 c.put.ensures,
+)
 
 pub shape_of-values : goal.shape_of-values
 shape_of-values c = stores_length c.args.values.now c.args.a.values _ c.loop-k.k c.loop-k.invariant.1

@@ -18,12 +18,11 @@ step-requires c =
 
 pub loop-i-preserved : goal.loop-i-preserved
 loop-i-preserved c =
-    let a = c.args in
-    (
+    let a = c.args in (
       omega (arith, c.loop-i-test.true),
       c.step.ensures
-      ∙ ap (raise a.old.now (named (listed a.records.now c.loop-i.i) a.turn.at)) c.loop-i.invariant.1
-      ∙ rw add-one (pass_more a.old.now a.turn.at a.records.now c.loop-i.i (board a.new.now a.row.now) c.loop-i-test.true)
+          ∙ ap (raise a.old.now (named (listed a.records.now c.loop-i.i) a.turn.at)) c.loop-i.invariant.1
+          ∙ rw add-one (pass_more a.old.now a.turn.at a.records.now c.loop-i.i (board a.new.now a.row.now) c.loop-i-test.true),
     )
 
 pub returns : goal.returns

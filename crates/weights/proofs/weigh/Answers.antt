@@ -36,10 +36,10 @@ loop-k-smaller c = omega arith
 
 pub loop-k-preserved : goal.loop-k-preserved
 loop-k-preserved c = let i = c.loop-k.invariant in (
-      omega (arith, c.loop-k-test.true),
-      weights_step _ _ c.loop-k.k _ _ c.add-total.result i.1 c.weigh_at-arc.ensures.0 c.add-total.ensures,
-      light_more c.loop-k.k _ _ c.add-total.result i.2 c.weigh_at-arc.ensures.1 c.add-total.ensures,
-    )
+  omega (arith, c.loop-k-test.true),
+  weights_step _ _ c.loop-k.k _ _ c.add-total.result i.1 c.weigh_at-arc.ensures.0 c.add-total.ensures,
+  light_more c.loop-k.k _ _ c.add-total.result i.2 c.weigh_at-arc.ensures.1 c.add-total.ensures,
+)
 
 pub returns : goal.returns
 returns c = let i = c.loop-k.invariant in

@@ -1,0 +1,9 @@
+-- The invariant: so many bytes are in the buffer. The measure is the room that is left.
+use Rattle.std.proofs.Common.{length, ◌-◌, ◌≤◌}
+use Rattle.tamulehk.proofs.fill.Given as goal
+
+abbrev pub invariant-loop-done : goal.invariant-loop-done
+invariant-loop-done g l = l.done ≤ length l.file
+
+abbrev pub decreases-loop-done : goal.decreases-loop-done
+decreases-loop-done g l = length l.initial.file - l.done
