@@ -1,6 +1,5 @@
 -- `answers::of_asked` meets its contract: the rounds, or the arc count, are the answer's value.
 use Rattle.answers.proofs.Answers.{accepted_given, refuted_given}
-use borrow.Author.Rules.{rules}
 use Rattle.answers.proofs.of_asked.Goals as goal
 
 pub returns-in-Accepted : goal.returns-in-Accepted

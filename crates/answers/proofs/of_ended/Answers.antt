@@ -1,6 +1,5 @@
 -- `answers::of_ended` meets its contract, case by case.
 use Rattle.answers.proofs.Answers.{found_given, none_given}
-use borrow.Author.Rules.{rules}
 use Rattle.answers.proofs.of_ended.Goals as goal
 
 pub returns-in-Found : goal.returns-in-Found

@@ -1,6 +1,5 @@
 -- `answers::of_found` meets its contract: four values where high is open, and six where it is not.
 use Rattle.answers.proofs.Answers.{open_given, high_given}
-use borrow.Author.Rules.{rules}
 use Rattle.answers.proofs.of_found.Goals as goal
 
 pub returns-in-Open : goal.returns-in-Open

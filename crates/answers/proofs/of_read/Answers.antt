@@ -1,6 +1,5 @@
 -- `answers::of_read` meets its contract: n, m and V are the answer's values, or the place of a refusal.
 use Rattle.answers.proofs.Answers.{read_given, unread_given}
-use borrow.Author.Rules.{rules}
 use Rattle.answers.proofs.of_read.Goals as goal
 
 pub returns-in-Done : goal.returns-in-Done

@@ -2,7 +2,6 @@
 use mathlib.Core.Path.{ap}
 use Rattle.writer.specs.Answers.{answer_written}
 use Rattle.answers.proofs.Answers.{one_given}
-use borrow.Author.Rules.{rules}
 use Rattle.answers.proofs.of_written.Goals as goal
 
 pub returns-in-Done : goal.returns-in-Done

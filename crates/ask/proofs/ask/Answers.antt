@@ -3,14 +3,12 @@ use mathlib.Core.Path.{◌≡◌, refl, sym, ◌∙◌}
 use mathlib.Core.Bool.{true}
 use Prim.Native.Nat.{◌*◌, ◌≤◌}
 use native.Mathlib.Omega.{arith}
-use borrow.Author.Tests.{not-true, not-false}
 use Rattle.tables.specs.Sheets.{Sheet, sheet, refusal, timed}
 use Rattle.tables.proofs.Laws.{accepted}
 use Rattle.windows.proofs.Limits.{nodes_few}
 use Rattle.calls.specs.Ask.{ask_refusal, refused}
 use Rattle.calls.proofs.Ask.Refusals.{refused_sheet, refused_10, refused_9, refused_none}
 use Rattle.ask.proofs.Deciding.{outcome}
-use borrow.Author.Rules.{rules}
 use Rattle.ask.proofs.ask.Goals as goal
 
 pub returns-then-refusal-ne0 : goal.returns-then-refusal-ne0

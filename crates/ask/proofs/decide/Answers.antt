@@ -14,7 +14,6 @@ use Rattle.turns.proofs.Sheets.{parts}
 use Rattle.calls.proofs.Ask.Refusals.{Granted, granted}
 use Rattle.ask.proofs.Posing.{limits}
 use Rattle.ask.proofs.Deciding.{leads, settles}
-use borrow.Author.Rules.{rules}
 use Rattle.ask.proofs.decide.Goals as goal
 
 pub starts-start-requires : goal.starts-start-requires

@@ -1,7 +1,6 @@
 -- Each branch writes by its callee's contract.
 use mathlib.Core.Path.{refl}
 use native.Mathlib.Omega.{arith}
-use borrow.Author.Rules.{rules}
 use Rattle.ask.proofs.finish.Goals as goal
 
 pub write_times-requires : goal.write_times-requires

@@ -1,7 +1,7 @@
 -- There always are ends with circuits that show them, or circuits that show there are none; and both are said of the published inequalities.
 use mathlib.Core.Logic.{◌⊎◌, inl, inr}
 use mathlib.Core.List.{List}
-use Prim.Native.Nat.{ℕ, ◌-◌, ◌<◌}
+use Prim.Native.Nat.{ℕ, ◌<◌}
 use Rattle.theory.specs.Arcs.{Arc, Works}
 use Rattle.theory.specs.Ends.{High, Range, Never, LowShown, HighShown, NoneShown}
 use Rattle.theory.proofs.Found.{found, none_never}

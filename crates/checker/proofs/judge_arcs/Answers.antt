@@ -6,7 +6,6 @@ use Rattle.tables.proofs.Laws.{square}
 use Rattle.reader.proofs.Leaves.{Leaves, leaves_sizes, leaves_few, read_leaves, read_refused}
 use Rattle.calls.proofs.Checker.Reading.{arcs_refused_first, arcs_read}
 use Rattle.refuting.specs.Answers.{answer_arcs}
-use borrow.Author.Rules.{rules}
 use Rattle.checker.proofs.judge_arcs.Goals as goal
 
 pub overflow_mul-places : goal.overflow_mul-places

@@ -6,7 +6,6 @@ use Rattle.tables.proofs.Laws.{square}
 use Rattle.reader.proofs.Leaves.{Leaves, leaves_sizes, leaves_few, read_leaves, read_refused}
 use Rattle.calls.proofs.Checker.Reading.{times_refused_first, times_read}
 use Rattle.keeping.specs.Answers.{answer_times}
-use borrow.Author.Rules.{rules}
 use Rattle.checker.proofs.judge_times.Goals as goal
 
 pub overflow_mul-places : goal.overflow_mul-places

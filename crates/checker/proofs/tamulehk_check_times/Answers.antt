@@ -1,6 +1,5 @@
 -- `checker::tamulehk_check_times` meets its contract: the answer, handed over.
 use Rattle.values.proofs.Handing.{handed}
-use borrow.Author.Rules.{rules}
 use Rattle.checker.proofs.tamulehk_check_times.Goals as goal
 
 pub give-requires : goal.give-requires

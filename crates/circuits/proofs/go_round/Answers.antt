@@ -1,11 +1,9 @@
 -- The invariant: `least` is the smallest of the nodes passed, and u was not met again. The measure is how many nodes are left.
-use mathlib.Core.Logic.{⊎_elim}
-use Prim.Native.Nat.{◌-◌, ◌*◌, ◌<◌}
+use Prim.Native.Nat.{◌*◌, ◌<◌}
 use native.Mathlib.Omega.{arith}
 use Rattle.circuits.specs.Ways.{before}
 use Rattle.theory.proofs.Backs.{back_none}
-use Rattle.circuits.proofs.Ways.{sound_here, Going, going_none, going_few, going_less, going_more, going_round}
-use borrow.Author.Rules.{rules}
+use Rattle.circuits.proofs.Ways.{sound_here, going_none, going_few, going_less, going_more, going_round}
 use Rattle.circuits.proofs.go_round.Goals as goal
 use Rattle.circuits.proofs.go_round.Goals.{then-x-least, else-x-least}
 

@@ -1,10 +1,7 @@
 -- The invariant: the way back has come to u, and the nodes that it passed are seen. The measure is how many are not.
-use mathlib.Core.Path.{◌≡◌, refl, ◌∙◌}
-use Prim.Native.Nat.{◌<◌}
-use native.Mathlib.Omega.{arith}
-use lib.ListN.{length, length-set}
-use Rattle.circuits.proofs.Ways.{others, others_less, Passed, passed_none, passed_here, passed_met, passed_more}
-use borrow.Author.Rules.{rules}
+use mathlib.Core.Path.{◌≡◌}
+use lib.ListN.{length}
+use Rattle.circuits.proofs.Ways.{others, Passed}
 use Rattle.circuits.proofs.meet.Given as goal
 
 abbrev pub invariant-loop-seen : goal.invariant-loop-seen

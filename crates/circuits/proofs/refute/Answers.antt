@@ -4,9 +4,8 @@ use Prim.Native.Nat.{ℕ}
 use native.Mathlib.Omega.{arith}
 use lib.ListN.{length-replicate}
 use Rattle.turns.proofs.Filling.{zero_at}
-use Rattle.circuits.specs.Ways.{before, Sound}
+use Rattle.circuits.specs.Ways.{Sound}
 use Rattle.circuits.proofs.Ways.{met_sound, sound_on, round_few, traced}
-use borrow.Author.Rules.{rules}
 use Rattle.circuits.proofs.refute.Goals as goal
 
 pub meet-u-requires : goal.meet-u-requires

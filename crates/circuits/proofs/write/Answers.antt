@@ -1,11 +1,10 @@
 -- The invariant: the last j arcs are written, and x is the node before them. The measure is the arcs left.
-use mathlib.Core.Path.{◌≡◌, refl, ◌∙◌}
-use Prim.Native.Nat.{◌-◌, ◌*◌, ◌/◌, ◌<◌}
+use mathlib.Core.Path.{refl, ◌∙◌}
+use Prim.Native.Nat.{◌*◌, ◌/◌, ◌<◌}
 use native.Mathlib.Omega.{arith}
-use lib.ListN.{length, get_or}
+use lib.ListN.{get_or}
 use Rattle.circuits.proofs.Ways.{sound_here, sound_next}
-use Rattle.circuits.proofs.Writing.{Written, written_none, written_more, written_all}
-use borrow.Author.Rules.{rules}
+use Rattle.circuits.proofs.Writing.{written_none, written_more, written_all}
 use Rattle.circuits.proofs.write.Goals as goal
 
 pub loop-j-init : goal.loop-j-init

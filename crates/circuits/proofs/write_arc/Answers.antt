@@ -8,7 +8,6 @@ use lib.Seq.{sets}
 use Rattle.circuits.specs.declared.Places.{Places}
 use Rattle.circuits.specs.Ways.{places_of}
 use Rattle.circuits.proofs.Writing.{few_places, four}
-use borrow.Author.Rules.{rules}
 use Rattle.circuits.proofs.write_arc.Goals as goal
 
 pub overflow_add-position : goal.overflow_add-position

@@ -7,7 +7,6 @@ use Rattle.numbers.proofs.Signs.{passed}
 use Rattle.windows.specs.Arcs.{up, down}
 use Rattle.edges.specs.declared.Record.{Record}
 use Rattle.edges.specs.Edges.{by_kind, edge}
-use borrow.Author.Rules.{rules}
 use Rattle.edges.proofs.edge_of.Goals as goal
 
 other : (k : ℕ) (a : Record) (q here next cross : ℕ) → 4 ≤ k → edge 0 0 0 0 ≡ by_kind k a q here next cross

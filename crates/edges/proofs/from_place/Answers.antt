@@ -7,7 +7,6 @@ use Rattle.numbers.proofs.Signs.{passed}
 use Rattle.tables.proofs.Laws.{square}
 use Rattle.edges.specs.Edges.{from_place}
 use Rattle.edges.proofs.Places.{kind_few}
-use borrow.Author.Rules.{rules}
 use Rattle.edges.proofs.from_place.Goals as goal
 
 pub overflow_mul-result : goal.overflow_mul-result

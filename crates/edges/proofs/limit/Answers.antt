@@ -4,7 +4,6 @@ use native.Mathlib.Omega.{arith}
 use Prim.Native.Nat.{ℕ, ◌-◌}
 use lib.ListN.{get_or}
 use lib.IntN.{pos}
-use borrow.Author.Rules.{rules}
 use Rattle.numbers.proofs.Signs.{passed}
 use Rattle.edges.proofs.Naming.{named, place_is}
 use Rattle.edges.proofs.limit.Goals as goal

@@ -1,6 +1,5 @@
 -- `edges::place_of` meets its contract: its sums are small, since n, t and the kind are.
 use native.Mathlib.Omega.{arith}
-use borrow.Author.Rules.{rules}
 use Rattle.edges.proofs.Naming.{row_small, place_small}
 use Rattle.edges.proofs.place_of.Goals as goal
 

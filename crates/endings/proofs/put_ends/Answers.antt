@@ -1,7 +1,6 @@
 -- `endings::put_ends` meets its contract, word by word.
 use Rattle.text.proofs.Puts.{puts_then}
 use native.Mathlib.Omega.{arith}
-use borrow.Author.Rules.{rules}
 use Rattle.endings.proofs.put_ends.Goals as goal
 
 pub returns : goal.returns

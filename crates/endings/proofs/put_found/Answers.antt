@@ -1,7 +1,6 @@
 -- `endings::put_found` meets its contract.
 use Rattle.endings.proofs.Texts.{found_puts}
 use native.Mathlib.Omega.{arith}
-use borrow.Author.Rules.{rules}
 use Rattle.endings.proofs.put_found.Goals as goal
 
 pub returns : goal.returns

@@ -2,7 +2,6 @@
 use Rattle.endings.proofs.Texts.{open_lines, high_lines_lem}
 use Rattle.text.proofs.Puts.{nothing_puts}
 use native.Mathlib.Omega.{arith}
-use borrow.Author.Rules.{rules}
 use Rattle.endings.proofs.put_high.Goals as goal
 
 pub returns-in-Open : goal.returns-in-Open

@@ -1,7 +1,6 @@
 -- `endings::put_highest` meets its contract, case by case.
 use Rattle.endings.proofs.Texts.{open_puts, up_to_puts}
 use native.Mathlib.Omega.{arith}
-use borrow.Author.Rules.{rules}
 use Rattle.endings.proofs.put_highest.Goals as goal
 
 pub returns-in-Open : goal.returns-in-Open

@@ -1,6 +1,5 @@
 -- `endings::put_none` meets its contract.
 use Rattle.text.proofs.Puts.{puts_then}
-use borrow.Author.Rules.{rules}
 use Rattle.endings.proofs.put_none.Goals as goal
 
 pub returns : goal.returns

@@ -2,13 +2,11 @@
 use mathlib.Core.Path.{◌≡◌, refl, sym, ◌∙◌}
 use Prim.Native.Nat.{◌*◌, ◌≤◌}
 use native.Mathlib.Omega.{arith}
-use borrow.Author.Tests.{not-true, not-false}
 use Rattle.tables.specs.Sheets.{Sheet, sheet, refusal}
 use Rattle.tables.proofs.Laws.{accepted}
 use Rattle.windows.proofs.Limits.{nodes_few}
 use Rattle.calls.specs.Ends.{refused}
 use Rattle.calls.proofs.Ends.Refusals.{refused_sheet, refused_9, refused_none}
-use borrow.Author.Rules.{rules}
 use Rattle.ends.proofs.ends.Goals as goal
 
 pub returns-then-refusal-ne0 : goal.returns-then-refusal-ne0

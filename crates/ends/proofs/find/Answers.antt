@@ -1,6 +1,5 @@
 -- `ends::find` meets its contract: what the climb comes to, with the circuits handed over.
 use Rattle.ends.proofs.Finishing.{find_fresh, find_low, climbs_low, climbs_none, none_fit, lacks}
-use borrow.Author.Rules.{rules}
 use Rattle.ends.proofs.find.Goals as goal
 
 pub climb-requires : goal.climb-requires

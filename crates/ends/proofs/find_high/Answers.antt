@@ -1,6 +1,5 @@
 -- `ends::find_high` meets its contract: what the descent comes to, with its circuit handed over.
 use Rattle.ends.proofs.Finishing.{high_overhead, high_open, high_fits, high_up_to, open_works, rests_high}
-use borrow.Author.Rules.{rules}
 use Rattle.ends.proofs.find_high.Goals as goal
 
 pub descend-requires : goal.descend-requires

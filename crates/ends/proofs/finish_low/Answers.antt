@@ -1,6 +1,5 @@
 -- `ends::finish_low` meets its contract: low's circuit goes into the first buffer, then high's, if there is one, into the second.
 use Rattle.ends.proofs.Finishing.{low_fits, low_high, finds}
-use borrow.Author.Rules.{rules}
 use Rattle.ends.proofs.finish_low.Goals as goal
 
 pub copy-requires : goal.copy-requires

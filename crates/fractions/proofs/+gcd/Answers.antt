@@ -1,7 +1,6 @@
 -- `fractions::gcd` meets its contract: where b is 0 the divisor is a; else b and the remainder have the divisors of a and b. The measure is b.
 use Rattle.theory.proofs.Fractions.{greatest_zero, greatest_step}
 use native.Mathlib.Nat.{mod-lt, pos_of_ne-zero}
-use Prim.Native.Nat.{ℕ, ◌<◌}
 use Rattle.fractions.proofs.+gcd.Goals as goal
 
 pub nonzero_rem-a : goal.nonzero_rem-a

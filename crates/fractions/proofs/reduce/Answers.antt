@@ -1,6 +1,5 @@
 -- `fractions::reduce` meets its contract: both divided by their greatest common divisor, which is above 0 since it divides the bottom.
 use native.Mathlib.Nat.{pos_of_dvd_of_pos}
-use borrow.Author.Rules.{rules}
 use Rattle.theory.proofs.Fractions.{greatest_parts}
 use Rattle.fractions.proofs.reduce.Goals as goal
 

@@ -5,7 +5,6 @@ use lib.Seq.{length-take-le}
 use Rattle.tables.proofs.Laws.{square}
 use Rattle.reader.proofs.Leaves.{Leaves, leaves_admitted, leaves_sizes, leaves_few, read_leaves, read_refused}
 use Rattle.calls.proofs.Host.Asking.{refused_first, read_answered}
-use borrow.Author.Rules.{rules}
 use Rattle.host.proofs.judge.Goals as goal
 
 pub overflow_mul-places : goal.overflow_mul-places

@@ -2,7 +2,6 @@
 use mathlib.Core.Path.{sym, ap}
 use Rattle.ask.specs.Answers.{answer_asked}
 use Rattle.ask.specs.declared.Asked.{Asked}
-use borrow.Author.Rules.{rules}
 use Rattle.host.proofs.number_of.Goals as goal
 
 pub returns-in-Accepted : goal.returns-in-Accepted

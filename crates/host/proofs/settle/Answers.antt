@@ -4,7 +4,6 @@ use Rattle.ask.specs.Answers.{answer_asked}
 use Rattle.tables.specs.Sheets.{sheet, timed}
 use Rattle.calls.specs.Host.{Answers}
 use Rattle.calls.proofs.Host.Asking.{answers}
-use borrow.Author.Rules.{rules}
 use Rattle.host.proofs.settle.Goals as goal
 
 pub returns : goal.returns

@@ -3,7 +3,6 @@ use mathlib.Core.Path.{sym, ap}
 use mathlib.Core.Bool.{Bool, ◌&&◌}
 use lib.ListN.{length, take}
 use borrow.Author.Tests.{le-leb, lt-leb}
-use borrow.Author.Rules.{rules}
 use Rattle.tables.specs.Sheets.{all}
 use Rattle.calls.specs.ProposedTimes.{in_reach}
 use Rattle.keeping.proofs.are_enough.Goals as goal

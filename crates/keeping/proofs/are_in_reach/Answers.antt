@@ -6,12 +6,10 @@ use native.Mathlib.Nat.{sub-zero}
 use mir.Syntax.{w64}
 use mir.ValLaws.{to_z-of_z}
 use mathlib.Core.Path.{◌≡◌, sym, ap, ◌∙◌}
-use Prim.Native.Nat.{ℕ, ◌-◌, ◌≤◌}
+use Prim.Native.Nat.{ℕ}
 use native.Mathlib.Omega.{arith}
-use borrow.Author.Tests.{not-true, not-false}
-use lib.ListN.{length, take, drop, get_or}
+use lib.ListN.{take, get_or}
 use lib.IntN.{pos}
-use borrow.Author.Rules.{rules}
 use Rattle.keeping.proofs.are_in_reach.Goals as goal
 
 pub loop-v-init : goal.loop-v-init

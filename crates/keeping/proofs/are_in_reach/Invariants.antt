@@ -1,17 +1,9 @@
 -- `keeping::are_in_reach` meets its contract. The invariant: the test of the times that are left is the test of all.
 use Rattle.tables.specs.Sheets.{all}
 use Rattle.calls.specs.ProposedTimes.{in_reach}
-use Rattle.tables.proofs.Laws.{all_stop, all_next, all_end}
-use native.Mathlib.Nat.{sub-zero}
-use mir.Syntax.{w64}
-use mir.ValLaws.{to_z-of_z}
-use mathlib.Core.Path.{◌≡◌, sym, ap, ◌∙◌}
-use Prim.Native.Nat.{ℕ, ◌-◌, ◌≤◌}
-use native.Mathlib.Omega.{arith}
-use borrow.Author.Tests.{not-true, not-false}
-use lib.ListN.{length, take, drop, get_or}
-use lib.IntN.{pos}
-use borrow.Author.Rules.{rules}
+use mathlib.Core.Path.{◌≡◌}
+use Prim.Native.Nat.{◌-◌, ◌≤◌}
+use lib.ListN.{length, take, drop}
 use Rattle.keeping.proofs.are_in_reach.Given as goal
 
 abbrev pub invariant-loop-v : goal.invariant-loop-v

@@ -4,7 +4,6 @@ use Prim.Native.Nat.{◌/◌}
 use native.Mathlib.Omega.{arith}
 use native.Mathlib.Nat.{mod-lt}
 use Rattle.tables.proofs.Laws.{square}
-use borrow.Author.Rules.{rules}
 use Rattle.keeping.proofs.broken.Goals as goal
 
 pub overflow_mul-result : goal.overflow_mul-result

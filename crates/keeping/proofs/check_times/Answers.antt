@@ -2,13 +2,11 @@
 use mathlib.Core.Path.{◌≡◌, refl, sym, ◌∙◌}
 use mathlib.Core.Bool.{true}
 use native.Mathlib.Omega.{arith}
-use borrow.Author.Tests.{not-true, not-false}
 use Rattle.tables.specs.Sheets.{Sheet, sheet, refusal, timed}
 use Rattle.tables.proofs.Laws.{accepted}
 use Rattle.windows.proofs.Limits.{nodes_few}
 use Rattle.calls.specs.ProposedTimes.{refused}
 use Rattle.calls.proofs.ProposedTimes.Refusals.{refused_sheet, refused_10, refused_11, refused_none, refused_few}
-use borrow.Author.Rules.{rules}
 use Rattle.keeping.proofs.check_times.Goals as goal
 
 pub returns-then-refusal-ne0 : goal.returns-then-refusal-ne0

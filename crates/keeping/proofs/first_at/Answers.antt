@@ -9,7 +9,6 @@ use Rattle.tables.proofs.Laws.{square}
 use Rattle.edges.proofs.Places.{Sizes, sizes, rest}
 use Rattle.keeping.specs.Breaks.{breaks_at, Spreads, First}
 use Rattle.keeping.proofs.Windows.{granted, limits, part, spreads}
-use borrow.Author.Rules.{rules}
 use Rattle.keeping.proofs.first_at.Goals as goal
 
 pub overflow_mul-size : goal.overflow_mul-size

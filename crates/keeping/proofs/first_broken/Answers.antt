@@ -1,7 +1,5 @@
 -- `keeping::first_broken` meets its contract. The invariant: the places passed have no window that is broken. The measure is what is left of the part.
 use mathlib.Core.Path.{◌≡◌, sym, ap, ◌∙◌, subst}
-use mathlib.Core.Bool.{false}
-use Prim.Native.Nat.{ℕ, ◌-◌, ◌≤◌, ◌<◌}
 use native.Mathlib.Omega.{arith}
 use lib.IntN.{ℤ, pos}
 use lib.ListN.{get_or}
@@ -9,7 +7,6 @@ use Rattle.numbers.proofs.Signs.{passed}
 use Rattle.tables.proofs.Laws.{square}
 use Rattle.keeping.specs.Breaks.{breaks_at, Spread}
 use Rattle.keeping.proofs.First.{none_yet, one_more, found, not_found}
-use borrow.Author.Rules.{rules}
 use Rattle.keeping.proofs.first_broken.Goals as goal
 
 pub overflow_mul-size : goal.overflow_mul-size

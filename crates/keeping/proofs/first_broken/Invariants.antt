@@ -1,15 +1,10 @@
 -- `keeping::first_broken` meets its contract. The invariant: the places passed have no window that is broken. The measure is what is left of the part.
-use mathlib.Core.Path.{◌≡◌, sym, ap, ◌∙◌, subst}
+use mathlib.Core.Path.{◌≡◌}
 use mathlib.Core.Bool.{false}
 use Prim.Native.Nat.{ℕ, ◌-◌, ◌≤◌, ◌<◌}
-use native.Mathlib.Omega.{arith}
-use lib.IntN.{ℤ, pos}
+use lib.IntN.{pos}
 use lib.ListN.{get_or}
-use Rattle.numbers.proofs.Signs.{passed}
-use Rattle.tables.proofs.Laws.{square}
-use Rattle.keeping.specs.Breaks.{breaks_at, Spread}
-use Rattle.keeping.proofs.First.{none_yet, one_more, found, not_found}
-use borrow.Author.Rules.{rules}
+use Rattle.keeping.specs.Breaks.{breaks_at}
 use Rattle.keeping.proofs.first_broken.Given as goal
 
 abbrev pub invariant-loop-k : goal.invariant-loop-k

@@ -7,7 +7,6 @@ use Rattle.tables.specs.Sheets.{absent}
 use Rattle.edges.specs.declared.Record.{Record}
 use Rattle.edges.specs.Edges.{from_place}
 use Rattle.keeping.specs.Breaks.{keeps_at, breaks_at, Able}
-use borrow.Author.Rules.{rules}
 use Rattle.keeping.proofs.is_broken.Goals as goal
 
 pub returns-then-is_absent : goal.returns-then-is_absent

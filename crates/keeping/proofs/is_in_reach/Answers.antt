@@ -1,7 +1,6 @@
 -- `keeping::is_in_reach` meets its contract: by the lower limit first, then by the upper.
 use mir.ValLaws.{to_z-of_z}
 use mir.Syntax.{w64}
-use borrow.Author.Rules.{rules}
 use Rattle.keeping.proofs.Reach.{reach_low, reach_high}
 use Rattle.keeping.proofs.is_in_reach.Goals as goal
 

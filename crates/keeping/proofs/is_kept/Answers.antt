@@ -7,7 +7,6 @@ use lib.ListN.{get_or}
 use lib.IntN.{pos}
 use mir.Syntax.{w64}
 use mir.ValLaws.{to_z-of_z}
-use borrow.Author.Rules.{rules}
 use Rattle.edges.specs.declared.Edge.{Edge}
 use Rattle.keeping.specs.Breaks.{lift, lifted_at, keeps_at, Reach}
 use Rattle.keeping.proofs.is_kept.Goals as goal

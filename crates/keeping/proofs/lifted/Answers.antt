@@ -1,7 +1,7 @@
 -- `keeping::lifted` meets its contract: the sum is the integers', and in reach it is not below zero.
 use mathlib.Core.Path.{◌≡◌, refl}
 use native.Mathlib.Omega.{arith}
-use lib.IntN.{ℤ, pos, ◌+ℤ◌}
+use lib.IntN.{pos, ◌+ℤ◌}
 use mir.ValLaws.{to_z-of_z}
 use mir.Syntax.{w64}
 use mir.Val.{SFits}

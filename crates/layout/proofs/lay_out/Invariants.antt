@@ -1,20 +1,13 @@
 -- The outer invariant: the records of the modes before t are laid out. The inner one: so are those of the places of the mode's part before k,
 -- and k is a place that has a window, or the part's end. The measures are the modes left, and what is left of the part.
-use mathlib.Core.Path.{◌≡◌, refl, ap, ◌∙◌}
+use mathlib.Core.Path.{◌≡◌}
 use mathlib.Core.Bool.{false}
 use mathlib.Core.List.{List}
-use Prim.Native.Nat.{ℕ, ◌+◌, ◌-◌, ◌*◌, ◌≤◌, ◌<◌}
-use native.Mathlib.Omega.{arith}
-use native.Mathlib.Nat.{le_antisymm}
+use Prim.Native.Nat.{ℕ, ◌-◌, ◌*◌, ◌≤◌, ◌<◌}
 use lib.IntN.{ℤ, pos}
-use lib.ListN.{length, get_or, drop, length-drop}
-use Rattle.numbers.proofs.Signs.{passed}
-use Rattle.tables.proofs.Laws.{square}
+use lib.ListN.{get_or, drop}
 use Rattle.tables.specs.Sheets.{absent}
-use Rattle.edges.specs.Edges.{from_place}
-use Rattle.layout.proofs.Laying.{Filling, fill_none, fill_few, fill_ahead, fill_put, fill_mode, fill_done}
-use Rattle.edges.proofs.Places.{Sizes, sizes, rest}
-use borrow.Author.Rules.{rules}
+use Rattle.layout.proofs.Laying.{Filling}
 use Rattle.layout.proofs.lay_out.Given as goal
 
 -- k is a place of a part that has a window, or its end

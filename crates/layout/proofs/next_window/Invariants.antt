@@ -1,16 +1,10 @@
 -- The invariant: no place passed has a window. The measure is what is left of the part.
-use mathlib.Core.Path.{◌≡◌, sym, ap, subst, ◌∙◌}
+use mathlib.Core.Path.{◌≡◌}
 use mathlib.Core.Bool.{true}
 use mathlib.Core.List.{List}
-use Prim.Native.Nat.{ℕ, ◌+◌, ◌-◌, ◌≤◌, ◌<◌}
-use native.Mathlib.Omega.{arith}
-use native.Mathlib.Decide.{dec_lt}
-use borrow.Author.Rules.{rules}
-use borrow.Author.Tests.{not-true, not-false}
+use Prim.Native.Nat.{ℕ, ◌-◌, ◌≤◌, ◌<◌}
 use lib.IntN.{ℤ, pos}
 use lib.ListN.{get_or}
-use Rattle.numbers.proofs.Signs.{passed}
-use Rattle.tables.proofs.Laws.{square}
 use Rattle.tables.specs.Sheets.{absent}
 use Rattle.layout.proofs.next_window.Given as goal
 

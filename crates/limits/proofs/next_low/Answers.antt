@@ -1,5 +1,4 @@
 -- `limits::next_low` meets its contract: where c is below 0 the circuit gains, so that W and -c are differences.
-use borrow.Author.Rules.{rules}
 use Rattle.limits.proofs.next_low.Goals as goal
 
 pub overflow_sub-weight : goal.overflow_sub-weight

@@ -1,7 +1,6 @@
 -- `lines::put_arc` meets its contract, number by number.
 use native.Mathlib.Omega.{arith}
 use Rattle.text.proofs.Puts.{puts_then}
-use borrow.Author.Rules.{rules}
 use Rattle.lines.proofs.put_arc.Goals as goal
 
 pub returns : goal.returns

@@ -1,8 +1,7 @@
 -- `lines::put_arcs` meets its contract. The invariant: all arcs but the first k are left; the measure is how many that is.
-use Prim.Native.Nat.{◌+◌, ◌-◌, ◌*◌, ◌≤◌}
 use native.Mathlib.Omega.{arith}
 use Rattle.text.proofs.Puts.{part_length}
-use Rattle.lines.proofs.Turns.{ArcsLeft, arcs_none, arcs_turn, arcs_all}
+use Rattle.lines.proofs.Turns.{arcs_none, arcs_turn, arcs_all}
 use Rattle.lines.proofs.put_arcs.Goals as goal
 
 pub loop-k-init : goal.loop-k-init

@@ -1,7 +1,6 @@
 -- `lines::put_circuit` meets its contract: the word, the count, the feed, the arcs.
 use Rattle.text.proofs.Puts.{puts_then}
 use native.Mathlib.Omega.{arith}
-use borrow.Author.Rules.{rules}
 use Rattle.lines.proofs.put_circuit.Goals as goal
 
 pub returns : goal.returns

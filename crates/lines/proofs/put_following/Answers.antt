@@ -1,9 +1,8 @@
 -- `lines::put_following` meets its contract. The invariant: all times but the first k are left, and the line feed; the measure is how many that is.
-use Prim.Native.Nat.{◌+◌, ◌-◌, ◌*◌, ◌≤◌}
 use native.Mathlib.Omega.{arith}
 use mathlib.Core.Path.{◌∙◌}
 use Rattle.text.proofs.Puts.{part_length}
-use Rattle.lines.proofs.Turns.{TimesLeft, times_none, times_turn, times_end}
+use Rattle.lines.proofs.Turns.{times_none, times_turn, times_end}
 use Rattle.lines.proofs.put_following.Goals as goal
 
 pub loop-k-init : goal.loop-k-init

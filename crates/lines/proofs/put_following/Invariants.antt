@@ -1,9 +1,6 @@
 -- `lines::put_following` meets its contract. The invariant: all times but the first k are left, and the line feed; the measure is how many that is.
 use Prim.Native.Nat.{◌+◌, ◌-◌, ◌*◌, ◌≤◌}
-use native.Mathlib.Omega.{arith}
-use mathlib.Core.Path.{◌∙◌}
-use Rattle.text.proofs.Puts.{part_length}
-use Rattle.lines.proofs.Turns.{TimesLeft, times_none, times_turn, times_end}
+use Rattle.lines.proofs.Turns.{TimesLeft}
 use Rattle.lines.proofs.put_following.Given as goal
 
 abbrev pub invariant-loop-k : goal.invariant-loop-k

@@ -1,7 +1,6 @@
 -- `lines::put_fraction` meets its contract: the top, the slash, the bottom.
 use native.Mathlib.Omega.{arith}
 use Rattle.text.proofs.Puts.{puts_then}
-use borrow.Author.Rules.{rules}
 use Rattle.lines.proofs.put_fraction.Goals as goal
 
 pub returns : goal.returns

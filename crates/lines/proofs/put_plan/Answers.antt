@@ -1,6 +1,5 @@
 -- `lines::put_plan` meets its contract: the word, q, rounds, the feed, the positions.
 use Rattle.text.proofs.Puts.{puts_then}
-use borrow.Author.Rules.{rules}
 use Rattle.lines.proofs.put_plan.Goals as goal
 
 pub returns : goal.returns

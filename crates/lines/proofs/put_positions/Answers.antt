@@ -1,9 +1,8 @@
 -- `lines::put_positions` meets its contract. The invariant: all positions but the first g are left; the measure is how many that is.
-use Prim.Native.Nat.{◌+◌, ◌-◌, ◌*◌, ◌≤◌}
 use native.Mathlib.Omega.{arith}
 use native.Mathlib.Nat.{mul-le-mul_right, mul-le-mul_left}
 use Rattle.text.proofs.Puts.{part_length}
-use Rattle.lines.proofs.Turns.{PositionsLeft, positions_none, positions_turn, positions_all}
+use Rattle.lines.proofs.Turns.{positions_none, positions_turn, positions_all}
 use Rattle.lines.proofs.put_positions.Goals as goal
 
 pub loop-g-init : goal.loop-g-init

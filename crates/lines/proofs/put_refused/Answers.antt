@@ -1,6 +1,5 @@
 -- `lines::put_refused` meets its contract: the word, the number, the place, the feed.
 use Rattle.text.proofs.Puts.{puts_then}
-use borrow.Author.Rules.{rules}
 use Rattle.lines.proofs.put_refused.Goals as goal
 
 pub returns : goal.returns

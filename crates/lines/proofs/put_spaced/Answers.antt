@@ -1,7 +1,6 @@
 -- `lines::put_spaced` meets its contract: the space, and the number after it.
 use native.Mathlib.Omega.{arith}
 use Rattle.text.proofs.Puts.{puts_then}
-use borrow.Author.Rules.{rules}
 use Rattle.lines.proofs.put_spaced.Goals as goal
 
 pub returns : goal.returns

@@ -1,7 +1,6 @@
 -- `lines::put_times` meets its contract: its first, and then the others.
 use native.Mathlib.Omega.{arith}
 use Rattle.lines.proofs.Turns.{times_puts}
-use borrow.Author.Rules.{rules}
 use Rattle.lines.proofs.put_times.Goals as goal
 
 pub returns : goal.returns

@@ -5,8 +5,7 @@ use Rattle.numbers.proofs.Reading.{unroll, three, group_one, group_more}
 use borrow.Author.Tests.{le-ltb}
 use mathlib.Core.Path.{sym, ap, ◌∙◌}
 use native.Mathlib.Omega.{arith}
-use borrow.Author.Rules.{rules}
-use Prim.Native.Nat.{ℕ, ◌<◌, ◌-◌, ◌+◌, ◌%◌}
+use Prim.Native.Nat.{◌-◌, ◌+◌, ◌%◌}
 use Rattle.numbers.proofs.+number_in.Goals as goal
 
 pub returns-then-left-eq0 : goal.returns-then-left-eq0

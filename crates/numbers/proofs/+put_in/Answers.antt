@@ -6,8 +6,7 @@ use native.Mathlib.Omega.{arith}
 use lib.ListN.{set, length-set}
 use lib.Seq.{sets}
 use Prim.Native.Nat.{◌+◌, ◌-◌, ◌/◌}
-use borrow.Author.Rules.{rules}
-use Prim.Native.Nat.{ℕ, ◌<◌}
+use Prim.Native.Nat.{ℕ}
 use Rattle.numbers.proofs.+put_in.Goals as goal
 
 pub returns-then-left-eq0 : goal.returns-then-left-eq0

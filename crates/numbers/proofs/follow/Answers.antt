@@ -4,7 +4,6 @@ use Rattle.numbers.specs.declared.Number.TheVariants.{Refused}
 use Rattle.numbers.proofs.Reading.{followed_zero, followed_more}
 use mathlib.Core.Path.{ap, ◌∙◌}
 use native.Mathlib.Omega.{arith}
-use borrow.Author.Rules.{rules}
 use Rattle.numbers.proofs.follow.Goals as goal
 
 pub overflow_mul-result : goal.overflow_mul-result

@@ -2,7 +2,6 @@
 use mir.Syntax.{w32}
 use mir.ValLaws.{to_z_pos}
 use Rattle.numbers.proofs.Signs.{unflip}
-use borrow.Author.Rules.{rules}
 use Rattle.numbers.proofs.with_sign.Goals as goal
 
 pub returns-then-negative : goal.returns-then-negative

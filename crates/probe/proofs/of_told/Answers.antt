@@ -2,7 +2,6 @@
 use mathlib.Core.Path.{ap}
 use Rattle.report.specs.Told.{answer_told}
 use Rattle.answers.proofs.Answers.{one_given}
-use borrow.Author.Rules.{rules}
 use Rattle.probe.proofs.of_told.Goals as goal
 
 pub returns-in-Written : goal.returns-in-Written

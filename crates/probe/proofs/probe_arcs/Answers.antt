@@ -1,7 +1,6 @@
 -- `probe::probe_arcs` meets its contract: the answer, handed over.
 use Rattle.refuting.specs.Answers.{answer_arcs}
 use Rattle.values.proofs.Handing.{handed}
-use borrow.Author.Rules.{rules}
 use Rattle.probe.proofs.probe_arcs.Goals as goal
 
 pub returns : goal.returns

@@ -1,7 +1,6 @@
 -- `probe::probe_ask` meets its contract: the answer, handed over.
 use Rattle.ask.specs.Answers.{answer_asked}
 use Rattle.values.proofs.Handing.{handed}
-use borrow.Author.Rules.{rules}
 use Rattle.probe.proofs.probe_ask.Goals as goal
 
 pub returns : goal.returns

@@ -1,7 +1,6 @@
 -- `probe::probe_ends` meets its contract: the answer, handed over.
 use Rattle.ends.specs.Answers.{answer_ended}
 use Rattle.values.proofs.Handing.{handed}
-use borrow.Author.Rules.{rules}
 use Rattle.probe.proofs.probe_ends.Goals as goal
 
 pub returns : goal.returns

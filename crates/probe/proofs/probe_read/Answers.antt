@@ -1,7 +1,6 @@
 -- `probe::probe_read` meets its contract: the reader's answer, handed over.
 use Rattle.reader.specs.Answers.{answer_read}
 use Rattle.values.proofs.Handing.{handed}
-use borrow.Author.Rules.{rules}
 use Rattle.probe.proofs.probe_read.Goals as goal
 
 pub returns : goal.returns

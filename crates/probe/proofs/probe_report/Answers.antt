@@ -1,7 +1,6 @@
 -- `probe::probe_report` meets its contract: the report's answer, handed over.
 use Rattle.report.specs.Told.{answer_told}
 use Rattle.values.proofs.Handing.{handed}
-use borrow.Author.Rules.{rules}
 use Rattle.probe.proofs.probe_report.Goals as goal
 
 pub returns : goal.returns

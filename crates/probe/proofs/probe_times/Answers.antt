@@ -1,7 +1,6 @@
 -- `probe::probe_times` meets its contract: the answer, handed over.
 use Rattle.keeping.specs.Answers.{answer_times}
 use Rattle.values.proofs.Handing.{handed}
-use borrow.Author.Rules.{rules}
 use Rattle.probe.proofs.probe_times.Goals as goal
 
 pub returns : goal.returns

@@ -1,7 +1,6 @@
 -- `probe::probe_write` meets its contract: the writer's answer, handed over.
 use Rattle.writer.specs.Answers.{answer_written}
 use Rattle.values.proofs.Handing.{handed}
-use borrow.Author.Rules.{rules}
 use Rattle.probe.proofs.probe_write.Goals as goal
 
 pub returns : goal.returns

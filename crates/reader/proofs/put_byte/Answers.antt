@@ -1,7 +1,6 @@
 -- `reader::put_byte` meets its contract: a store past the end changes nothing.
 use mathlib.Core.Path.{sym}
 use lib.Seq.{set_out}
-use borrow.Author.Rules.{rules}
 use Rattle.reader.proofs.put_byte.Goals as goal
 
 pub returns-else-position-schedule : goal.returns-else-position-schedule

@@ -9,7 +9,6 @@ use Rattle.sheet.specs.File.{refused, counts_at, tested}
 use Rattle.records.specs.Steps.{between}
 use Rattle.sheet.proofs.Numbers.{after_value, after_refused, tested_same}
 use Rattle.records.proofs.Ranges.{just_one, refused_is}
-use borrow.Author.Rules.{rules}
 use Rattle.reader.proofs.read_head.Goals as goal
 
 -- each number as it was read

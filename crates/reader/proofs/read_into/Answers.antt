@@ -6,7 +6,6 @@ use Rattle.sheet.proofs.Following.{then_value, then_refused}
 use Rattle.sheet.proofs.Sheets.{counted}
 use Rattle.reader.proofs.Filling.{fills_refused}
 use mathlib.Core.Path.{◌≡◌, sym, ap, subst, ◌∙◌}
-use borrow.Author.Rules.{rules}
 use Rattle.reader.proofs.read_into.Goals as goal
 
 pub read_rest-requires : goal.read_rest-requires

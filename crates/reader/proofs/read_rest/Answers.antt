@@ -9,7 +9,6 @@ use mathlib.Core.List.{List}
 use Prim.Native.Nat.{ℕ}
 use lib.Seq.{sets}
 use lib.IntN.{ℤ}
-use borrow.Author.Rules.{rules}
 use Rattle.reader.proofs.read_rest.Goals as goal
 
 -- what is put into a list

@@ -2,7 +2,6 @@
 use borrow.Author.Tests.{ltb-true}
 use Rattle.sheet.specs.File.{tested, schedule_at}
 use Rattle.records.specs.Steps.{Walks, between}
-use Rattle.records.specs.declared.Ending.{Ending}
 use Rattle.sheet.proofs.Numbers.{tested_same, tested_value}
 use Rattle.records.proofs.Ranges.{below}
 use Rattle.reader.proofs.Schedules.{store_modes, position_next, position_stop, position_done}
@@ -12,10 +11,8 @@ use Prim.Native.Nat.{ℕ, ◌+◌, ◌-◌, ◌≤◌}
 use native.Mathlib.Omega.{arith}
 use native.Mathlib.Nat.{sub-zero}
 use lib.Dec.{ltb}
-use lib.ListN.{length}
 use Rattle.numbers.specs.Groups.{number_at}
 use Rattle.numbers.specs.declared.Number.TheVariants.{Value}
-use borrow.Author.Rules.{rules}
 use Rattle.reader.proofs.read_schedule.Goals as goal
 
 -- the number of this turn

@@ -1,21 +1,12 @@
 -- `reader::read_schedule` meets its contract. The invariant: what ends the positions that are left ends them all.
-use borrow.Author.Tests.{ltb-true}
-use Rattle.sheet.specs.File.{tested, schedule_at}
-use Rattle.records.specs.Steps.{Walks, between}
+use Rattle.sheet.specs.File.{schedule_at}
+use Rattle.records.specs.Steps.{Walks}
 use Rattle.records.specs.declared.Ending.{Ending}
-use Rattle.sheet.proofs.Numbers.{tested_same, tested_value}
-use Rattle.records.proofs.Ranges.{below}
-use Rattle.reader.proofs.Schedules.{store_modes, position_next, position_stop, position_done}
-use mathlib.Core.Path.{◌≡◌, refl, sym, subst, ◌∙◌}
+use Rattle.reader.proofs.Schedules.{store_modes}
+use mathlib.Core.Path.{◌≡◌}
 use mathlib.Core.List.{List}
-use Prim.Native.Nat.{ℕ, ◌+◌, ◌-◌, ◌≤◌}
-use native.Mathlib.Omega.{arith}
-use native.Mathlib.Nat.{sub-zero}
-use lib.Dec.{ltb}
+use Prim.Native.Nat.{ℕ, ◌-◌, ◌≤◌}
 use lib.ListN.{length}
-use Rattle.numbers.specs.Groups.{number_at}
-use Rattle.numbers.specs.declared.Number.TheVariants.{Value}
-use borrow.Author.Rules.{rules}
 use Rattle.reader.proofs.read_schedule.Given as goal
 
 abbrev pub invariant-loop-h : goal.invariant-loop-h

@@ -11,7 +11,6 @@ use borrow.Author.Tests.{eq-eqb, ne_eqb}
 use lib.ListN.{length}
 use lib.Seq.{sets}
 use lib.IntN.{ℤ}
-use borrow.Author.Rules.{rules}
 use Rattle.reader.proofs.read_tables.Goals as goal
 
 -- the two ways of a file whose records are right

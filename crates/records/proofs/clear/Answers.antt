@@ -1,13 +1,12 @@
 -- `records::clear` meets its contract. The invariant: clearing the places that are left gives what clearing all gives.
 use Rattle.records.proofs.Records.{clear_next, clear_done}
 use Rattle.tables.specs.Sheets.{no_window}
-use mathlib.Core.Path.{◌≡◌, refl, ap, ◌∙◌}
-use Prim.Native.Nat.{ℕ, ◌-◌, ◌≤◌}
+use mathlib.Core.Path.{refl, ap, ◌∙◌}
+use Prim.Native.Nat.{ℕ}
 use native.Mathlib.Omega.{arith}
 use native.Mathlib.Nat.{sub-zero}
-use lib.ListN.{length, replicate}
+use lib.ListN.{replicate}
 use lib.Seq.{sets}
-use borrow.Author.Rules.{rules}
 use Rattle.records.proofs.clear.Goals as goal
 
 pub loop-place-init : goal.loop-place-init

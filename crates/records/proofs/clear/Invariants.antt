@@ -1,13 +1,9 @@
 -- `records::clear` meets its contract. The invariant: clearing the places that are left gives what clearing all gives.
-use Rattle.records.proofs.Records.{clear_next, clear_done}
 use Rattle.tables.specs.Sheets.{no_window}
-use mathlib.Core.Path.{◌≡◌, refl, ap, ◌∙◌}
-use Prim.Native.Nat.{ℕ, ◌-◌, ◌≤◌}
-use native.Mathlib.Omega.{arith}
-use native.Mathlib.Nat.{sub-zero}
+use mathlib.Core.Path.{◌≡◌}
+use Prim.Native.Nat.{◌-◌, ◌≤◌}
 use lib.ListN.{length, replicate}
 use lib.Seq.{sets}
-use borrow.Author.Rules.{rules}
 use Rattle.records.proofs.clear.Given as goal
 
 abbrev pub invariant-loop-place : goal.invariant-loop-place

@@ -6,7 +6,6 @@ use borrow.Author.Tests.{le-leb, lt-leb}
 use lib.Dec.{leb}
 use Rattle.numbers.specs.Groups.{number_at}
 use Rattle.numbers.specs.declared.Number.TheVariants.{Refused}
-use borrow.Author.Rules.{rules}
 use Rattle.records.proofs.kind_at.Goals as goal
 
 pub returns-in_default : goal.returns-in_default

@@ -2,9 +2,7 @@
 use Rattle.records.specs.Steps.{between}
 use Rattle.sheet.proofs.Numbers.{tested_refused, tested_yes, tested_no}
 use mathlib.Core.Path.{sym, ◌∙◌}
-use borrow.Author.Tests.{not-true, not-false}
 use Rattle.numbers.specs.Groups.{number_at}
-use borrow.Author.Rules.{rules}
 use Rattle.records.proofs.number_within.Goals as goal
 
 pub returns-in_default : goal.returns-in_default

@@ -1,7 +1,6 @@
 -- `records::put_value` meets its contract: a store past the end changes nothing.
 use mathlib.Core.Path.{sym}
 use lib.Seq.{set_out}
-use borrow.Author.Rules.{rules}
 use Rattle.records.proofs.put_value.Goals as goal
 
 pub returns-else-place-part : goal.returns-else-place-part

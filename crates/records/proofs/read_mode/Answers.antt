@@ -14,7 +14,6 @@ use native.Mathlib.Omega.{arith}
 use lib.Dec.{leb}
 use lib.IntN.{ℤ}
 use Rattle.numbers.specs.Groups.{number_at}
-use borrow.Author.Rules.{rules}
 use Rattle.records.proofs.read_mode.Goals as goal
 
 -- the count, refused above 4·n²

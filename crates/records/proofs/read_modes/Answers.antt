@@ -1,20 +1,16 @@
 -- `records::read_modes` meets its contract. The invariant: what ends the modes that are left, from their part on, ends them all.
 use Rattle.sheet.specs.File.{modes_at, laid}
 use Rattle.records.specs.Steps.{Walks}
-use Rattle.records.specs.declared.Ending.{Ending}
 use Rattle.records.proofs.Walking.{walked, unwalked}
 use Rattle.sheet.proofs.Windows.{few}
 use Rattle.records.proofs.Lent.{part_back}
 use Rattle.records.proofs.Modes.{store_mode, store_from, mode_next, mode_stop, mode_done}
 use borrow.Rule.Slice.PartMut.{same_len_mid}
 use mathlib.Core.Path.{◌≡◌, refl, subst, ◌∙◌}
-use mathlib.Core.List.{List}
-use Prim.Native.Nat.{ℕ, ◌-◌, ◌*◌, ◌≤◌}
+use Prim.Native.Nat.{ℕ, ◌-◌, ◌*◌}
 use native.Mathlib.Omega.{arith}
 use native.Mathlib.Nat.{sub-zero, mul-le-mul}
 use lib.ListN.{length}
-use lib.IntN.{ℤ}
-use borrow.Author.Rules.{rules}
 use Rattle.records.proofs.read_modes.Goals as goal
 
 none : (k : ℕ) → 0 * k ≡ 0

@@ -12,7 +12,6 @@ use Rattle.tables.specs.Sheets.{in_limit}
 use Rattle.sheet.specs.File.{got, refused, placed, value_at, rising}
 use Rattle.sheet.proofs.Numbers.{after_value, after_refused, tested_refused, tested_yes, tested_no}
 use Rattle.records.proofs.Ranges.{limits, up_to, refused_is}
-use borrow.Author.Rules.{rules}
 use Rattle.records.proofs.read_value.Goals as goal
 
 -- the limits as the file has them

@@ -11,7 +11,6 @@ use Rattle.sheet.specs.File.{refused, record_at, tested}
 use Rattle.sheet.proofs.Numbers.{after_value, after_refused, tested_value}
 use Rattle.records.proofs.Ranges.{refused_is}
 use Rattle.sheet.proofs.Places.{Fit, Steps, steps_fit}
-use borrow.Author.Rules.{rules}
 use Rattle.records.proofs.read_window.Goals as goal
 
 pub returns-in_default : goal.returns-in_default

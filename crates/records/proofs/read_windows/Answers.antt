@@ -3,17 +3,15 @@ use Rattle.sheet.proofs.Windows.{place_within, few}
 use Rattle.records.proofs.Records.{store, next, stop, done}
 use Rattle.sheet.specs.File.{got, placed, record_at, records_at}
 use Rattle.records.specs.Steps.{Walks, found_part}
-use Rattle.records.specs.declared.Ending.{Ending}
 use Rattle.numbers.specs.Signs.{decoded}
 use Rattle.numbers.proofs.Signs.{passed}
 use mathlib.Core.Path.{◌≡◌, refl, sym, ap, subst, ◌∙◌}
 use mathlib.Core.List.{List}
-use Prim.Native.Nat.{ℕ, ◌+◌, ◌-◌, ◌≤◌}
+use Prim.Native.Nat.{ℕ, ◌+◌, ◌-◌}
 use native.Mathlib.Omega.{arith}
 use native.Mathlib.Nat.{sub-zero}
-use lib.ListN.{length, set}
+use lib.ListN.{set}
 use lib.IntN.{ℤ}
-use borrow.Author.Rules.{rules}
 use Rattle.records.proofs.read_windows.Goals as goal
 
 pub loop-k-init : goal.loop-k-init

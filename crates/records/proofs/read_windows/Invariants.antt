@@ -1,19 +1,13 @@
 -- `records::read_windows` meets its contract. The invariant: what ends the records that are left ends them all.
-use Rattle.sheet.proofs.Windows.{place_within, few}
-use Rattle.records.proofs.Records.{store, next, stop, done}
-use Rattle.sheet.specs.File.{got, placed, record_at, records_at}
-use Rattle.records.specs.Steps.{Walks, found_part}
+use Rattle.records.proofs.Records.{store}
+use Rattle.sheet.specs.File.{records_at}
+use Rattle.records.specs.Steps.{Walks}
 use Rattle.records.specs.declared.Ending.{Ending}
-use Rattle.numbers.specs.Signs.{decoded}
-use Rattle.numbers.proofs.Signs.{passed}
-use mathlib.Core.Path.{◌≡◌, refl, sym, ap, subst, ◌∙◌}
+use mathlib.Core.Path.{◌≡◌}
 use mathlib.Core.List.{List}
-use Prim.Native.Nat.{ℕ, ◌+◌, ◌-◌, ◌≤◌}
-use native.Mathlib.Omega.{arith}
-use native.Mathlib.Nat.{sub-zero}
-use lib.ListN.{length, set}
+use Prim.Native.Nat.{◌-◌, ◌≤◌}
+use lib.ListN.{length}
 use lib.IntN.{ℤ}
-use borrow.Author.Rules.{rules}
 use Rattle.records.proofs.read_windows.Given as goal
 
 abbrev pub invariant-loop-k : goal.invariant-loop-k

@@ -1,7 +1,6 @@
 -- `records::refusal` meets its contract: by what the number is.
 use mathlib.Core.Path.{sym, ap, ◌∙◌}
 use Rattle.records.specs.Steps.{refusal_in}
-use borrow.Author.Rules.{rules}
 use Rattle.records.proofs.refusal.Goals as goal
 
 pub returns-in-Value : goal.returns-in-Value

@@ -1,11 +1,9 @@
 -- The sheet's refusals, then the cycle time's; what neither refuses is judged.
 use native.Mathlib.Omega.{arith}
 use mathlib.Core.Path.{◌≡◌, refl, sym, ◌∙◌}
-use borrow.Author.Tests.{not-true, not-false}
 use Rattle.tables.specs.Sheets.{Sheet, sheet, refusal}
 use Rattle.calls.specs.ProposedArcs.{refused}
 use Rattle.calls.proofs.ProposedArcs.Refusals.{refused_sheet, refused_10, refused_few}
-use borrow.Author.Rules.{rules}
 use Rattle.refuting.proofs.check_arcs.Goals as goal
 
 pub returns-then-refusal-ne0 : goal.returns-then-refusal-ne0

@@ -7,7 +7,6 @@ use Rattle.tables.proofs.Laws.{accepted}
 use Rattle.edges.specs.Naming.{NamesPlace}
 use Rattle.edges.specs.Edges.{sheet_of}
 use Rattle.refuting.proofs.Present.{named_place, present_named, edge_same}
-use borrow.Author.Rules.{rules}
 use Rattle.refuting.proofs.edge_for.Goals as goal
 
 pub limit_of-value-requires : goal.limit_of-value-requires

@@ -3,7 +3,6 @@ use mathlib.Core.Path.{ap, ◌∙◌}
 use Rattle.tables.specs.Sheets.{Sheet}
 use Rattle.edges.specs.Edges.{sheet_of}
 use Rattle.refuting.specs.Reading.{present, edge_for}
-use borrow.Author.Rules.{rules}
 use Rattle.refuting.proofs.edge_in.Goals as goal
 
 pub edge_for-requires : goal.edge_for-requires

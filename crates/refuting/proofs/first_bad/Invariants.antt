@@ -1,11 +1,7 @@
 -- The invariant: no arc passed is bad. The measure is what is left.
-use native.Mathlib.Omega.{arith}
 use Prim.Native.Nat.{ℕ, ◌-◌, ◌≤◌, ◌<◌}
-use borrow.Author.Tests.{not-true, not-false}
 use Rattle.calls.specs.ProposedArcs.{Good}
 use Rattle.edges.specs.Edges.{sheet_of}
-use Rattle.refuting.proofs.Following.{told_true, told_false, below_more}
-use borrow.Author.Rules.{rules}
 use Rattle.refuting.proofs.first_bad.Given as goal
 
 abbrev pub invariant-loop-k : goal.invariant-loop-k

@@ -2,11 +2,8 @@
 use native.Mathlib.Omega.{arith}
 use native.Mathlib.Nat.{le_antisymm}
 use mathlib.Core.Path.{◌≡◌, refl, ap, ◌∙◌}
-use Prim.Native.Nat.{◌-◌, ◌≤◌}
 use Rattle.edges.specs.declared.Edge.{Edge}
 use Rattle.calls.proofs.ProposedArcs.Tests.{sum_to}
-use Rattle.edges.specs.Edges.{sheet_of}
-use Rattle.refuting.specs.Reading.{edge_in}
 use Rattle.refuting.proofs.Tests.{read_present, edge_small, sums_small, sum_step, above_tells}
 use Rattle.refuting.proofs.is_above.Goals as goal
 

@@ -1,13 +1,9 @@
 -- The invariant: the sums are those of the arcs passed. The measure is what is left.
-use native.Mathlib.Omega.{arith}
-use native.Mathlib.Nat.{le_antisymm}
-use mathlib.Core.Path.{◌≡◌, refl, ap, ◌∙◌}
+use mathlib.Core.Path.{◌≡◌}
 use Prim.Native.Nat.{◌-◌, ◌≤◌}
-use Rattle.edges.specs.declared.Edge.{Edge}
 use Rattle.calls.proofs.ProposedArcs.Tests.{sum_to}
 use Rattle.edges.specs.Edges.{sheet_of}
 use Rattle.refuting.specs.Reading.{edge_in}
-use Rattle.refuting.proofs.Tests.{read_present, edge_small, sums_small, sum_step, above_tells}
 use Rattle.refuting.proofs.is_above.Given as goal
 
 abbrev pub invariant-loop-k : goal.invariant-loop-k

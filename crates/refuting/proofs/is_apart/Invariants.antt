@@ -1,11 +1,8 @@
 -- The invariant: no arc from i on, before the one at k, leaves the same node. The measure is i.
-use native.Mathlib.Omega.{arith}
-use Prim.Native.Nat.{ℕ, ◌-◌, ◌≤◌, ◌<◌}
+use Prim.Native.Nat.{ℕ, ◌≤◌, ◌<◌}
 use mathlib.Core.Logic.{◌≢◌}
 use Rattle.edges.specs.Edges.{sheet_of}
 use Rattle.refuting.specs.Reading.{edge_in}
-use Rattle.refuting.proofs.Tests.{read_present, apart_not, apart_more}
-use borrow.Author.Rules.{rules}
 use Rattle.refuting.proofs.is_apart.Given as goal
 
 abbrev pub invariant-loop-i : goal.invariant-loop-i

@@ -3,13 +3,11 @@ use native.Mathlib.Omega.{arith}
 use mathlib.Core.Path.{◌≡◌, sym, ap, ◌∙◌}
 use mathlib.Core.Bool.{true}
 use Prim.Native.Nat.{◌-◌}
-use borrow.Author.Tests.{not-true, not-false}
 use Rattle.tables.specs.Sheets.{Sheet}
 use Rattle.edges.specs.Edges.{sheet_of}
 use Rattle.refuting.specs.Reading.{four_at, present, edge_for}
 use Rattle.refuting.proofs.Present.{step_present}
 use Rattle.refuting.proofs.Following.{good_not, good_first, good_next}
-use borrow.Author.Rules.{rules}
 use Rattle.refuting.proofs.is_good.Goals as goal
 
 pub returns-then-not-is_window : goal.returns-then-not-is_window

@@ -2,10 +2,9 @@
 use mathlib.Core.Path.{◌≡◌, sym, ◌∙◌}
 use mathlib.Core.Bool.{true}
 use lib.Dec.{ltb}
-use borrow.Author.Tests.{le-ltb, lt-ltb, not-true, not-false}
+use borrow.Author.Tests.{le-ltb, lt-ltb}
 use Rattle.tables.specs.Sheets.{within}
 use Rattle.refuting.proofs.Present.{first_out, second_out, third_out, fourth}
-use borrow.Author.Rules.{rules}
 use Rattle.refuting.proofs.is_named.Goals as goal
 
 pub returns-then-arc-ge4 : goal.returns-then-arc-ge4

@@ -1,11 +1,9 @@
 -- Numbers that name a place of the tables name a window where it is not "no window".
 use mathlib.Core.Path.{ap, sym, ◌∙◌}
-use borrow.Author.Tests.{not-true, not-false}
 use Rattle.numbers.proofs.Signs.{passed}
 use Rattle.tables.specs.Sheets.{Sheet, absent}
 use Rattle.edges.specs.Edges.{sheet_of}
 use Rattle.refuting.proofs.Present.{unnamed, present_is}
-use borrow.Author.Rules.{rules}
 use Rattle.refuting.proofs.is_window.Goals as goal
 
 pub returns-then-not-is_named : goal.returns-then-not-is_named

@@ -1,13 +1,11 @@
 -- Refusal 11, the first bad arc, and where there is none the tests.
 use native.Mathlib.Omega.{arith}
 use mathlib.Core.Path.{◌≡◌, refl, sym, ◌∙◌}
-use borrow.Author.Tests.{not-true, not-false}
 use Rattle.tables.specs.Sheets.{Sheet}
 use Rattle.calls.specs.ProposedArcs.{arcs_refusal, refused}
 use Rattle.calls.proofs.ProposedArcs.Refusals.{refused_11, refused_none}
 use Rattle.edges.specs.Edges.{sheet_of}
 use Rattle.refuting.proofs.Judging.{enough, ready, bad_is, read}
-use borrow.Author.Rules.{rules}
 use Rattle.refuting.proofs.judge.Goals as goal
 
 pub returns-then-not-is_whole : goal.returns-then-not-is_whole

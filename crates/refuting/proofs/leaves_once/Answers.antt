@@ -1,12 +1,9 @@
 -- The invariant: no two of the arcs passed leave the same node. The measure is what is left.
 use native.Mathlib.Omega.{arith}
-use Prim.Native.Nat.{ℕ, ◌-◌, ◌≤◌, ◌<◌}
-use borrow.Author.Tests.{not-true, not-false}
 use Rattle.edges.specs.Edges.{sheet_of}
 use Rattle.refuting.specs.Reading.{Apart}
 use Rattle.refuting.proofs.Following.{told_true, told_false, below_more}
 use Rattle.refuting.proofs.Tests.{once_not, once_yes}
-use borrow.Author.Rules.{rules}
 use Rattle.refuting.proofs.leaves_once.Goals as goal
 
 pub loop-k-init : goal.loop-k-init

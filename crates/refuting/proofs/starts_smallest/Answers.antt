@@ -1,7 +1,7 @@
 -- The invariant: no arc passed leaves a smaller node than the first. The measure is what is left.
 use native.Mathlib.Omega.{arith}
 use mathlib.Core.Path.{ap}
-use Prim.Native.Nat.{ℕ, ◌-◌, ◌≤◌, ◌<◌}
+use Prim.Native.Nat.{◌≤◌}
 use Rattle.edges.specs.declared.Edge.{Edge}
 use Rattle.edges.specs.Edges.{sheet_of}
 use Rattle.refuting.specs.Reading.{edge_in}

@@ -1,12 +1,7 @@
 -- The invariant: no arc passed leaves a smaller node than the first. The measure is what is left.
-use native.Mathlib.Omega.{arith}
-use mathlib.Core.Path.{ap}
 use Prim.Native.Nat.{ℕ, ◌-◌, ◌≤◌, ◌<◌}
-use Rattle.edges.specs.declared.Edge.{Edge}
 use Rattle.edges.specs.Edges.{sheet_of}
 use Rattle.refuting.specs.Reading.{edge_in}
-use Rattle.refuting.proofs.Following.{below_more}
-use Rattle.refuting.proofs.Tests.{read_present, smallest_not, smallest_yes}
 use Rattle.refuting.proofs.starts_smallest.Given as goal
 
 abbrev pub invariant-loop-k : goal.invariant-loop-k

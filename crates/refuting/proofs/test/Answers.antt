@@ -1,13 +1,11 @@
 -- Closing, then a node left twice; the rest is the callee's.
 use mathlib.Core.Bool.{true, false}
-use borrow.Author.Tests.{not-true, not-false}
 use Rattle.theory.specs.Circuits.{Distinct, departures}
 use Rattle.tables.specs.Sheets.{Sheet}
 use Rattle.calls.specs.ProposedArcs.{Closed}
 use Rattle.edges.specs.Edges.{sheet_of}
 use Rattle.refuting.specs.Reading.{TellsOf}
 use Rattle.refuting.proofs.Judging.{known, open_is, twice_is}
-use borrow.Author.Rules.{rules}
 use Rattle.refuting.proofs.test.Goals as goal
 
 pub returns-then-not-closed : goal.returns-then-not-closed

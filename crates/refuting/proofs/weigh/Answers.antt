@@ -1,13 +1,11 @@
 -- The smallest node first, then the total, whose sums are of at most 192 arcs.
 use mathlib.Core.Bool.{true, false}
-use borrow.Author.Tests.{not-true, not-false}
 use Rattle.theory.specs.Circuits.{departures, FirstSmallest, Above}
 use Rattle.tables.specs.Sheets.{Sheet}
 use Rattle.edges.specs.Edges.{sheet_of}
 use Rattle.refuting.specs.Reading.{TellsOf}
 use Rattle.refuting.proofs.Tests.{once_few}
 use Rattle.refuting.proofs.Judging.{known, larger_is, below_is, accepted_is}
-use borrow.Author.Rules.{rules}
 use Rattle.refuting.proofs.weigh.Goals as goal
 
 pub is_above-above-requires : goal.is_above-above-requires

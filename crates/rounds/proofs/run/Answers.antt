@@ -7,7 +7,6 @@ use native.Mathlib.Nat.{mul-le-mul}
 use lib.ListN.{length, get_or, length-replicate}
 use Rattle.turns.proofs.Filling.{zero_at}
 use Rattle.turns.proofs.Places.{nodes_small}
-use borrow.Author.Rules.{rules}
 use Rattle.rounds.proofs.run.Goals as goal
 
 turns-few : (N positions : ℕ) → N ≤ 192 → positions ≤ 16 → N * positions ≤ 3072

@@ -1,6 +1,5 @@
 -- `search::ask_at` meets its contract: what Ask answers where no refusal fits.
 use Rattle.search.proofs.Asking.{asks}
-use borrow.Author.Rules.{rules}
 use Rattle.search.proofs.ask_at.Goals as goal
 
 pub returns : goal.returns

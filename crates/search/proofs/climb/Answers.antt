@@ -1,11 +1,8 @@
 -- `search::climb` meets its contract. The invariant: the climb stands, with its circuit; the measure is what is left of the climb, which falls
 -- since every step goes to a later cycle time with a bottom up to n.
 use native.Mathlib.Omega.{arith}
-use borrow.Author.Rules.{rules}
-use Rattle.tables.specs.Sheets.{sheet}
-use Rattle.search.specs.Searches.{LowStands}
 use Rattle.search.proofs.Asking.{stands_ready}
-use Rattle.search.proofs.Rising.{to_climb, fresh_stands, climb_asks, climb_next, climbed_low, climbed_none}
+use Rattle.search.proofs.Rising.{fresh_stands, climb_asks, climb_next, climbed_low, climbed_none}
 use Rattle.search.proofs.climb.Goals as goal
 
 pub loop-weight-init : goal.loop-weight-init

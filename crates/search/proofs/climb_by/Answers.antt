@@ -1,6 +1,5 @@
 -- `search::climb_by` meets its contract: each case of what the sums say is a case of the climb.
 use Rattle.search.proofs.Rising.{rises_on, rises_alone, rises_both}
-use borrow.Author.Rules.{rules}
 use Rattle.search.proofs.climb_by.Goals as goal
 
 pub returns-in-On : goal.returns-in-On

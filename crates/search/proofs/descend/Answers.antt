@@ -1,6 +1,5 @@
 -- `search::descend` meets its contract: it starts above every limit.
-use Rattle.search.proofs.Falling.{overhead_hangs, fall_asks, fall_next, fall_works}
-use borrow.Author.Rules.{rules}
+use Rattle.search.proofs.Falling.{overhead_hangs, fall_asks, fall_next}
 use Rattle.search.proofs.descend.Goals as goal
 
 pub descend_by-next-requires : goal.descend_by-next-requires

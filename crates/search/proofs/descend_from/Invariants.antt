@@ -1,10 +1,8 @@
 -- `search::descend_from` meets its contract. The invariant: the descent stands, with its circuit, over what works; the measure falls since
 -- every step goes to an earlier cycle time.
-use native.Mathlib.Omega.{arith}
-use borrow.Author.Rules.{rules}
 use Rattle.tables.specs.Sheets.{sheet}
 use Rattle.search.specs.Searches.{HighStands}
-use Rattle.search.proofs.Falling.{to_descend, fall_asks, descend_next, descend_rests}
+use Rattle.search.proofs.Falling.{to_descend}
 use Rattle.search.proofs.descend_from.Given as goal
 
 abbrev pub invariant-loop-at : goal.invariant-loop-at

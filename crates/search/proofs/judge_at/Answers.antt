@@ -1,6 +1,5 @@
 -- `search::judge_at` meets its contract: what Ask answers, with the sums of the circuit that refutes.
 use Rattle.search.proofs.Asking.{judged_works, judged_never, judged_lists, judged_above}
-use borrow.Author.Rules.{rules}
 use Rattle.search.proofs.judge_at.Goals as goal
 
 pub weigh-weight-requires : goal.weigh-weight-requires

@@ -5,12 +5,10 @@ use native.Mathlib.Nat.{sub-zero}
 use mir.Syntax.{w32}
 use mir.ValLaws.{to_z-of_z}
 use mathlib.Core.Path.{◌≡◌, sym, ap, ◌∙◌}
-use Prim.Native.Nat.{ℕ, ◌-◌, ◌≤◌}
+use Prim.Native.Nat.{ℕ}
 use native.Mathlib.Omega.{arith}
-use borrow.Author.Tests.{not-true, not-false}
-use lib.ListN.{length, take, drop, get_or}
+use lib.ListN.{take, get_or}
 use lib.IntN.{pos}
-use borrow.Author.Rules.{rules}
 use Rattle.tables.proofs.are_admitted.Goals as goal
 
 pub loop-k-init : goal.loop-k-init

@@ -4,7 +4,6 @@ use mir.ValLaws.{to_z-of_z}
 use mir.Syntax.{w32}
 use mathlib.Core.Path.{sym, ◌∙◌}
 use borrow.Author.Tests.{eq-eqb, ne_eqb}
-use borrow.Author.Rules.{rules}
 use Rattle.tables.proofs.is_admitted.Goals as goal
 
 pub returns-then-value-eq-NO_WINDOW : goal.returns-then-value-eq-NO_WINDOW

@@ -2,13 +2,12 @@
 use Rattle.tables.specs.Sheets.{all}
 use Rattle.tables.proofs.Laws.{all_stop, all_next, all_end}
 use native.Mathlib.Nat.{sub-zero}
-use mathlib.Core.Path.{◌≡◌, sym, ap}
-use Prim.Native.Nat.{ℕ, ◌-◌, ◌≤◌}
+use mathlib.Core.Path.{sym, ap}
+use Prim.Native.Nat.{ℕ}
 use native.Mathlib.Omega.{arith}
 use borrow.Author.Tests.{le-ltb, lt-ltb}
 use lib.Dec.{ltb}
-use lib.ListN.{length, take, drop, get_or}
-use borrow.Author.Rules.{rules}
+use lib.ListN.{take, get_or}
 use Rattle.tables.proofs.is_scheduled.Goals as goal
 
 pub loop-h-init : goal.loop-h-init

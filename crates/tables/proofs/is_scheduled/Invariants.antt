@@ -1,14 +1,9 @@
 -- `tables::is_scheduled` meets its contract. The invariant: the test of the positions that are left is the test of all.
 use Rattle.tables.specs.Sheets.{all}
-use Rattle.tables.proofs.Laws.{all_stop, all_next, all_end}
-use native.Mathlib.Nat.{sub-zero}
-use mathlib.Core.Path.{◌≡◌, sym, ap}
-use Prim.Native.Nat.{ℕ, ◌-◌, ◌≤◌}
-use native.Mathlib.Omega.{arith}
-use borrow.Author.Tests.{le-ltb, lt-ltb}
+use mathlib.Core.Path.{◌≡◌}
+use Prim.Native.Nat.{◌-◌, ◌≤◌}
 use lib.Dec.{ltb}
-use lib.ListN.{length, take, drop, get_or}
-use borrow.Author.Rules.{rules}
+use lib.ListN.{length, take, drop}
 use Rattle.tables.proofs.is_scheduled.Given as goal
 
 abbrev pub invariant-loop-h : goal.invariant-loop-h

@@ -2,10 +2,8 @@
 use mathlib.Core.Path.{◌≡◌, sym, ◌∙◌}
 use mathlib.Core.Bool.{true}
 use native.Mathlib.Omega.{arith}
-use borrow.Author.Tests.{not-true, not-false}
 use Rattle.tables.specs.Sheets.{Sheet, sheet, sized, scheduled, admitted}
 use Rattle.tables.proofs.Laws.{sizes, square, few_places, refused_4, refused_5, refused_6, refused_not}
-use borrow.Author.Rules.{rules}
 use Rattle.tables.proofs.judge.Goals as goal
 
 pub returns-then-not-is_sized : goal.returns-then-not-is_sized

@@ -1,7 +1,6 @@
 -- `telling::tell_found` meets its contract.
 use Rattle.telling.proofs.Telling.{stands_few, low_askable, found_told}
 use mathlib.Core.Path.{refl}
-use borrow.Author.Rules.{rules}
 use Rattle.telling.proofs.tell_found.Goals as goal
 
 pub put_found-at-requires : goal.put_found-at-requires

@@ -4,7 +4,6 @@ use Rattle.windows.proofs.Limits.{nodes_few}
 use Rattle.tables.proofs.Laws.{accepted}
 use native.Mathlib.Omega.{arith}
 use mathlib.Core.Path.{◌∙◌}
-use borrow.Author.Rules.{rules}
 use Rattle.telling.proofs.tell_plan.Goals as goal
 
 pub put_plan-requires : goal.put_plan-requires

@@ -5,7 +5,6 @@ use Rattle.tables.proofs.Laws.{square}
 use lib.Seq.{length-take-le}
 use native.Mathlib.Omega.{arith}
 use mathlib.Core.Path.{sym}
-use borrow.Author.Rules.{rules}
 use Rattle.telling.proofs.tell_read.Goals as goal
 
 pub overflow_mul-places : goal.overflow_mul-places

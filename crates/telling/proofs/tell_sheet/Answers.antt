@@ -1,7 +1,6 @@
 -- `telling::tell_sheet` meets its contract: the ends or none; the last arm is never taken.
 use Rattle.telling.proofs.Telling.{stands_few, none_told, tells_ends, tells_none, ended_found, ended_none, ended_refused}
 use mathlib.Core.Path.{◌∙◌}
-use borrow.Author.Rules.{rules}
 use Rattle.telling.proofs.tell_sheet.Goals as goal
 
 pub tell_found-requires : goal.tell_found-requires

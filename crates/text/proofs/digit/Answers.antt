@@ -1,6 +1,5 @@
 -- `text::digit` meets its contract: the digits follow 48, the byte of 0.
 use mathlib.Core.Path.{refl}
-use borrow.Author.Rules.{rules}
 use Rattle.text.proofs.digit.Goals as goal
 
 pub returns : goal.returns

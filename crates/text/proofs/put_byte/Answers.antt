@@ -1,7 +1,6 @@
 -- `text::put_byte` meets its contract: past the end of the buffer `set` does nothing.
 use mathlib.Core.Path.{refl, sym}
 use lib.Seq.{set_out}
-use borrow.Author.Rules.{rules}
 use Rattle.text.proofs.put_byte.Goals as goal
 
 pub returns-then-at-out : goal.returns-then-at-out

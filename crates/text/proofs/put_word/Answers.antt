@@ -1,9 +1,8 @@
 -- `text::put_word` meets its contract. The invariant: the first k bytes stand; the measure is what is left.
-use mathlib.Core.Path.{◌≡◌, refl, ap, ◌∙◌}
-use Prim.Native.Nat.{◌-◌, ◌≤◌}
+use mathlib.Core.Path.{refl, ap, ◌∙◌}
 use native.Mathlib.Omega.{arith}
 use lib.ListN.{length, take}
-use lib.Seq.{sets, length-sets}
+use lib.Seq.{length-sets}
 use Rattle.text.proofs.Stores.{word_more, word_all}
 use Rattle.text.proofs.put_word.Goals as goal
 

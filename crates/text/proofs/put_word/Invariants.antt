@@ -1,10 +1,8 @@
 -- `text::put_word` meets its contract. The invariant: the first k bytes stand; the measure is what is left.
-use mathlib.Core.Path.{◌≡◌, refl, ap, ◌∙◌}
+use mathlib.Core.Path.{◌≡◌}
 use Prim.Native.Nat.{◌-◌, ◌≤◌}
-use native.Mathlib.Omega.{arith}
 use lib.ListN.{length, take}
-use lib.Seq.{sets, length-sets}
-use Rattle.text.proofs.Stores.{word_more, word_all}
+use lib.Seq.{sets}
 use Rattle.text.proofs.put_word.Given as goal
 
 abbrev pub invariant-loop-k : goal.invariant-loop-k

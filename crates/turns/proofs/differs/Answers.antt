@@ -1,10 +1,6 @@
 -- The invariant: the tables agree at the places passed. The measure is what is left.
-use mathlib.Core.Path.{◌≡◌}
-use Prim.Native.Nat.{ℕ, ◌-◌, ◌≤◌, ◌<◌}
 use native.Mathlib.Omega.{arith}
 use borrow.Author.Count.{below_none, below_more}
-use lib.ListN.{get_or}
-use borrow.Author.Rules.{rules}
 use Rattle.turns.proofs.differs.Goals as goal
 
 pub loop-v-init : goal.loop-v-init

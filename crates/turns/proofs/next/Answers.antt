@@ -5,7 +5,6 @@ use native.Mathlib.Omega.{arith}
 use Rattle.turns.specs.Rounds.{turn_of, Differs, on, still, again}
 use Rattle.turns.proofs.Filling.{filled_whole}
 use Rattle.turns.proofs.Places.{nodes_small}
-use borrow.Author.Rules.{rules}
 use Rattle.turns.proofs.next.Goals as goal
 
 pub returns-then-g-job : goal.returns-then-g-job

@@ -4,7 +4,6 @@ use native.Mathlib.Omega.{arith}
 use native.Mathlib.Nat.{mul-le-mul}
 use borrow.Author.Tests.{eq-eqb, ne_eqb}
 use Rattle.turns.specs.Rounds.{site_of}
-use borrow.Author.Rules.{rules}
 use Rattle.turns.proofs.site_at.Goals as goal
 
 small : (g n : ℕ) → g ≤ 16 → n ≤ 12 → g * n ≤ 192

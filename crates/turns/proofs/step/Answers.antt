@@ -4,7 +4,6 @@ use native.Mathlib.Omega.{arith}
 use Rattle.edges.specs.declared.Edge.{Edge}
 use Rattle.turns.specs.Rounds.{Named, named, board, Reach}
 use Rattle.turns.proofs.Folds.{raise_more, raise_same}
-use borrow.Author.Rules.{rules}
 use Rattle.turns.proofs.step.Goals as goal
 
 pub offset_bounds-old-departure : goal.offset_bounds-old-departure

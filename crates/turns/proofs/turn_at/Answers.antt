@@ -4,7 +4,6 @@ use Prim.Native.Nat.{ℕ}
 use native.Mathlib.Omega.{arith}
 use Rattle.turns.specs.declared.Site.{Site}
 use Rattle.turns.specs.declared.Turn.{Turn}
-use borrow.Author.Rules.{rules}
 use Rattle.turns.proofs.turn_at.Goals as goal
 
 same : (left r g node first last : ℕ) (at at' : Site) → at ≡ at' → ◌≡◌ {A = Turn} (record { left = left; round = r; position = g; node = node; first = first; last = last; at = at }) (record { left = left; round = r; position = g; node = node; first = first; last = last; at = at' })

@@ -1,8 +1,6 @@
 -- The invariant: the places passed are written. The measure is what is left.
 use Prim.Native.Nat.{◌-◌, ◌≤◌}
-use native.Mathlib.Omega.{arith}
-use Rattle.turns.proofs.Filling.{Filling, filling_none, filling_more, filled}
-use borrow.Author.Rules.{rules}
+use Rattle.turns.proofs.Filling.{Filling}
 use Rattle.turns.proofs.write_times.Given as goal
 
 abbrev pub invariant-loop-v : goal.invariant-loop-v

@@ -1,10 +1,7 @@
 -- `values::give` meets its contract. The invariant: the first k values are stored; the measure is what is left.
-use mathlib.Core.Path.{◌≡◌, refl}
-use Prim.Native.Nat.{◌-◌, ◌≤◌}
+use mathlib.Core.Path.{refl}
 use native.Mathlib.Omega.{arith}
 use native.Mathlib.Nat.{le_antisymm}
-use lib.ListN.{take}
-use lib.Seq.{sets}
 use Rattle.values.proofs.Lists.{stores_more, stores_all, stores_length}
 use Rattle.values.proofs.give.Goals as goal
 

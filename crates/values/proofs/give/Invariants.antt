@@ -1,11 +1,8 @@
 -- `values::give` meets its contract. The invariant: the first k values are stored; the measure is what is left.
-use mathlib.Core.Path.{◌≡◌, refl}
+use mathlib.Core.Path.{◌≡◌}
 use Prim.Native.Nat.{◌-◌, ◌≤◌}
-use native.Mathlib.Omega.{arith}
-use native.Mathlib.Nat.{le_antisymm}
 use lib.ListN.{take}
 use lib.Seq.{sets}
-use Rattle.values.proofs.Lists.{stores_more, stores_all, stores_length}
 use Rattle.values.proofs.give.Given as goal
 
 abbrev pub invariant-loop-k : goal.invariant-loop-k

@@ -1,7 +1,6 @@
 -- `values::put` meets its contract: past the end of the list `set` does nothing.
 use mathlib.Core.Path.{sym}
 use lib.Seq.{set_out}
-use borrow.Author.Rules.{rules}
 use Rattle.values.proofs.put.Goals as goal
 
 pub returns-else-at-values : goal.returns-else-at-values

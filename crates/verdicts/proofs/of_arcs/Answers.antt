@@ -1,6 +1,5 @@
 -- `verdicts::of_arcs` meets its contract: the index is the answer's value, and every other case a number alone.
 use Rattle.verdicts.proofs.Answers.{bad_given, arcs_alone, number_alone}
-use borrow.Author.Rules.{rules}
 use Rattle.verdicts.proofs.of_arcs.Goals as goal
 
 pub returns-in-Accepted : goal.returns-in-Accepted

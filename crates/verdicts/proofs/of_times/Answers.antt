@@ -1,6 +1,5 @@
 -- `verdicts::of_times` meets its contract: position, kind, to and from are the answer's values.
 use Rattle.verdicts.proofs.Answers.{broken_given, times_alone, number_alone}
-use borrow.Author.Rules.{rules}
 use Rattle.verdicts.proofs.of_times.Goals as goal
 
 pub returns-in-Accepted : goal.returns-in-Accepted

@@ -1,11 +1,9 @@
 -- `walk::pass` meets its contract: a record's step goes on from the boards as the records before it left them.
-use Rattle.std.proofs.Common.{◌≡◌, ℕ, ◌<◌, ◌+◌, length, take, sym, ap, ◌∙◌, refl, subst, arith, add-one}
+use Rattle.std.proofs.Common.{◌≡◌, ℕ, length, take, ap, ◌∙◌, refl, arith, add-one}
 use native.Mathlib.Nat.{le_antisymm}
-use Rattle.edges.specs.declared.Record.{Record}
 use Rattle.layout.specs.Records.{listed}
-use Rattle.turns.specs.Rounds.{named, raise, Able, Board, board, after, passed}
+use Rattle.turns.specs.Rounds.{named, raise, board, after, passed}
 use Rattle.turns.proofs.Folds.{pass_none, pass_more, pass_all, able_same}
-use Rattle.turns.proofs.Tables.{after_long}
 use Rattle.walk.proofs.pass.Goals as goal
 
 pub loop-i-init : goal.loop-i-init

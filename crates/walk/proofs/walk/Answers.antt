@@ -1,5 +1,5 @@
 -- `walk::walk` meets its contract: what a turn does to the state is `turns/proofs/Walking`; of `pass` and `next` only their contracts are known.
-use Rattle.std.proofs.Common.{◌≡◌, ℕ, ◌*◌, ◌<◌, ◌≤◌, length, sym, ap, ◌∙◌, arith}
+use Rattle.std.proofs.Common.{◌≡◌, ℕ, ◌<◌, length, sym, ◌∙◌, arith}
 use mathlib.Core.List.{List}
 use Rattle.edges.specs.declared.Record.{Record}
 use Rattle.turns.specs.declared.Job.{Job}

@@ -1,7 +1,6 @@
 -- `weights::by_kind` meets its contract, kind by kind; a number past 3 is no kind.
 use mathlib.Core.Path.{◌∙◌}
 use native.Mathlib.Omega.{arith}
-use borrow.Author.Rules.{rules}
 use Rattle.weights.proofs.Weighing.{kind_0, kind_1, kind_2, kind_3, kind_past}
 use Rattle.weights.proofs.by_kind.Goals as goal
 

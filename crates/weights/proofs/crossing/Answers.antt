@@ -1,7 +1,6 @@
 -- `weights::crossing` meets its contract: the last position divided by their number is 1, an earlier one 0.
 use mathlib.Core.Path.{sym, ◌∙◌}
 use native.Mathlib.Omega.{arith}
-use borrow.Author.Rules.{rules}
 use Rattle.weights.proofs.Weighing.{crosses_last, crosses_not}
 use Rattle.weights.proofs.crossing.Goals as goal
 

@@ -1,11 +1,8 @@
 -- `weights::weigh` meets its contract. The invariant: the total is the sums of the first k arcs, and small; the measure is what is left.
 use mathlib.Core.Path.{◌≡◌, ap, ◌∙◌}
-use Prim.Native.Nat.{◌-◌, ◌≤◌}
 use native.Mathlib.Omega.{arith}
 use native.Mathlib.Nat.{le_antisymm}
-use borrow.Author.Rules.{rules}
 use Rattle.limits.specs.declared.Weight.{Weight}
-use Rattle.tables.specs.Sheets.{sheet}
 use Rattle.weights.specs.Weights.{weight, weights_in, Light}
 use Rattle.weights.proofs.Weighing.{weights_step, light_more}
 use Rattle.weights.proofs.weigh.Goals as goal

@@ -1,7 +1,6 @@
 -- `weights::weigh_arc` meets its contract: the parts of the limit and the crossing are those of the arc, whatever its kind.
 use mathlib.Core.Path.{ap, ◌∙◌}
 use native.Mathlib.Omega.{arith}
-use borrow.Author.Rules.{rules}
 use Rattle.windows.specs.Arcs.{up, down}
 use Rattle.numbers.proofs.Signs.{passed}
 use Rattle.weights.proofs.Weighing.{kind_same, light_kind}

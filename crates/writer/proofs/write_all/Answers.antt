@@ -11,7 +11,6 @@ use lib.Seq.{length-take-le}
 use Rattle.tables.specs.Sheets.{Sheet, sheet}
 use Rattle.sheet.specs.Written.{sheet_numbers}
 use Rattle.writer.specs.Steps.{state, run}
-use borrow.Author.Rules.{rules}
 use Rattle.writer.proofs.write_all.Goals as goal
 
 pub write_number-b-requires : goal.write_number-b-requires

@@ -5,7 +5,6 @@ use Rattle.tables.specs.Sheets.{absent}
 use Rattle.sheet.specs.Written.{cell, records}
 use Rattle.writer.proofs.Runs.{run_none}
 use mathlib.Core.Path.{◌≡◌, sym, ap, ◌∙◌}
-use borrow.Author.Rules.{rules}
 use Rattle.writer.proofs.write_cell.Goals as goal
 
 pub returns-then-is_absent : goal.returns-then-is_absent

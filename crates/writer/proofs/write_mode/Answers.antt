@@ -7,7 +7,6 @@ use Prim.Native.Nat.{ℕ, ◌*◌}
 use native.Mathlib.Omega.{arith}
 use lib.ListN.{length, take}
 use Rattle.writer.specs.Steps.{state, run}
-use borrow.Author.Rules.{rules}
 use Rattle.writer.proofs.write_mode.Goals as goal
 
 pub write_windows-requires : goal.write_windows-requires

@@ -11,7 +11,6 @@ use lib.Seq.{length-take-le}
 use lib.IntN.{ℤ}
 use Rattle.writer.specs.Steps.{state, run}
 use Rattle.sheet.proofs.Windows.{few}
-use borrow.Author.Rules.{rules}
 use Rattle.writer.proofs.write_modes.Goals as goal
 
 nothing : (k : ℕ) → 0 * k ≡ 0

@@ -2,7 +2,6 @@
 use Rattle.numbers.proofs.Writing.{few_groups}
 use Rattle.writer.proofs.Runs.{run_one}
 use native.Mathlib.Omega.{arith}
-use borrow.Author.Rules.{rules}
 use Rattle.writer.proofs.write_number.Goals as goal
 
 pub overflow_add-result : goal.overflow_add-result

@@ -1,14 +1,13 @@
 -- `writer::write_places` meets its contract. The invariant: writing the windows that are left gives what writing all gives.
 use Rattle.sheet.specs.Written.{cell, records}
 use Rattle.writer.specs.Steps.{state, run}
-use Rattle.writer.proofs.Rows.{left, windows_next, windows_done, cell_short}
+use Rattle.writer.proofs.Rows.{windows_next, windows_done, cell_short}
 use mathlib.Core.Path.{◌≡◌, refl, ap, ◌∙◌}
-use Prim.Native.Nat.{◌+◌, ◌-◌, ◌*◌, ◌≤◌, ◌<◌}
+use Prim.Native.Nat.{◌<◌}
 use native.Mathlib.Omega.{arith}
-use lib.ListN.{length, get_or}
+use lib.ListN.{get_or}
 use lib.IntN.{ℤ, pos}
 use Rattle.numbers.proofs.Signs.{passed}
-use borrow.Author.Rules.{rules}
 use Rattle.writer.proofs.write_places.Goals as goal
 
 pub loop-k-init : goal.loop-k-init

@@ -4,11 +4,10 @@ use Rattle.writer.proofs.Rows.{schedule_next, schedule_done}
 use Rattle.writer.proofs.Runs.{run_few}
 use mathlib.Core.Path.{◌≡◌, refl, ap, ◌∙◌}
 use mathlib.Core.List.{[], ◌∷◌}
-use Prim.Native.Nat.{ℕ, ◌+◌, ◌-◌, ◌*◌, ◌≤◌, ◌<◌}
+use Prim.Native.Nat.{ℕ, ◌<◌}
 use native.Mathlib.Omega.{arith}
 use native.Mathlib.Nat.{sub-zero}
-use lib.ListN.{length, take, drop, get_or}
-use borrow.Author.Rules.{rules}
+use lib.ListN.{take, get_or}
 use Rattle.writer.proofs.write_schedule.Goals as goal
 
 pub loop-h-init : goal.loop-h-init

@@ -1,14 +1,8 @@
 -- `writer::write_schedule` meets its contract. The invariant: writing the positions that are left gives what writing all gives.
-use Rattle.writer.specs.Steps.{state, run}
-use Rattle.writer.proofs.Rows.{schedule_next, schedule_done}
-use Rattle.writer.proofs.Runs.{run_few}
-use mathlib.Core.Path.{◌≡◌, refl, ap, ◌∙◌}
-use mathlib.Core.List.{[], ◌∷◌}
-use Prim.Native.Nat.{ℕ, ◌+◌, ◌-◌, ◌*◌, ◌≤◌, ◌<◌}
-use native.Mathlib.Omega.{arith}
-use native.Mathlib.Nat.{sub-zero}
-use lib.ListN.{length, take, drop, get_or}
-use borrow.Author.Rules.{rules}
+use Rattle.writer.specs.Steps.{run}
+use mathlib.Core.Path.{◌≡◌}
+use Prim.Native.Nat.{◌+◌, ◌-◌, ◌*◌, ◌≤◌}
+use lib.ListN.{length, take, drop}
 use Rattle.writer.proofs.write_schedule.Given as goal
 
 abbrev pub invariant-loop-h : goal.invariant-loop-h

@@ -3,7 +3,6 @@ use Rattle.writer.proofs.Outcomes.{writes_refused, walked_length, writes_short, 
 use mathlib.Core.Path.{◌≡◌, sym, ◌∙◌}
 use native.Mathlib.Omega.{arith}
 use Rattle.tables.specs.Sheets.{Sheet, sheet, refusal}
-use borrow.Author.Rules.{rules}
 use Rattle.writer.proofs.write_sheet.Goals as goal
 
 pub returns-then-judged-ne0 : goal.returns-then-judged-ne0

@@ -4,7 +4,6 @@ use native.Mathlib.Nat.{mod-lt, mul-pos}
 use Rattle.writer.proofs.Runs.{run_few, run_more}
 use Prim.Native.Nat.{◌+◌, ◌/◌, ◌≤◌}
 use native.Mathlib.Omega.{arith}
-use borrow.Author.Rules.{rules}
 use Rattle.writer.proofs.write_window.Goals as goal
 
 pub overflow_mul-n : goal.overflow_mul-n

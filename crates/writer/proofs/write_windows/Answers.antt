@@ -9,7 +9,6 @@ use Rattle.tables.proofs.Laws.{square}
 use Rattle.sheet.specs.Written.{placed_of, records}
 use Rattle.writer.specs.Steps.{run}
 use Rattle.writer.proofs.Rows.{left, places_short, kinds_next, kinds_done}
-use borrow.Author.Rules.{rules}
 use Rattle.writer.proofs.write_windows.Goals as goal
 
 nothing : (k : ℕ) → 0 * k ≡ 0

@@ -1,15 +1,10 @@
 -- `writer::write_windows` meets its contract. The invariant: writing the kinds that are left gives what writing all gives.
-use mathlib.Core.Path.{◌≡◌, refl, ap, ◌∙◌}
-use Prim.Native.Nat.{ℕ, ◌+◌, ◌-◌, ◌*◌, ◌≤◌}
-use native.Mathlib.Omega.{arith}
-use native.Mathlib.Nat.{sub-zero, suc-mul, mul-le-mul_right}
-use lib.ListN.{length, take, drop, length-drop}
-use lib.Seq.{length-take-le}
-use Rattle.tables.proofs.Laws.{square}
+use mathlib.Core.Path.{◌≡◌}
+use Prim.Native.Nat.{◌+◌, ◌-◌, ◌*◌, ◌≤◌}
+use lib.ListN.{length, take}
 use Rattle.sheet.specs.Written.{placed_of, records}
 use Rattle.writer.specs.Steps.{run}
-use Rattle.writer.proofs.Rows.{left, places_short, kinds_next, kinds_done}
-use borrow.Author.Rules.{rules}
+use Rattle.writer.proofs.Rows.{left}
 use Rattle.writer.proofs.write_windows.Given as goal
 
 abbrev pub invariant-loop-kind : goal.invariant-loop-kind

@@ -1,11 +1,7 @@
 -- `buffers::copy` meets its contract. The invariant: the first k numbers are copied; the measure is what is left.
-use mathlib.Core.Path.{◌≡◌, refl, ap, ◌∙◌}
-use Prim.Native.Nat.{ℕ, ◌-◌, ◌≤◌}
-use native.Mathlib.Omega.{arith}
-use native.Mathlib.Nat.{le_antisymm}
-use lib.ListN.{length}
+use mathlib.Core.Path.{◌≡◌}
+use Prim.Native.Nat.{◌-◌, ◌≤◌}
 use Rattle.search.specs.Copies.{copied}
-use Rattle.search.proofs.Copies.{copied_length, copied_more}
 use Rattle.search.proofs.buffers.copy.Given as goal
 
 abbrev pub invariant-loop-k : goal.invariant-loop-k
