@@ -20,8 +20,8 @@ use Rattle.windows.proofs.Listed.{each_same, one_to_of}
 use Rattle.calls.specs.Circuits.{CircuitOrNone}
 use Rattle.calls.specs.Ask as ask
 use Rattle.calls.specs.Ends as ends
-use Rattle.calls.specs.ProposedTimes as proposedTimes
-use Rattle.calls.specs.ProposedArcs as proposedArcs
+use Rattle.calls.specs.ProposedTimes as proposed_times
+use Rattle.calls.specs.ProposedArcs as proposed_arcs
 use Rattle.calls.proofs.ProposedArcs.Steps.{sound_valid}
 
 -- the other: the same n, m and V over other lists
@@ -169,11 +169,11 @@ module _ (s : Sheet) (tables : List ℤ) (schedule : List ℕ) (alike : Alike s 
 
   -- ---- proposed times and arcs
 
-  broken_same : (p q : ℕ) (list : List ℤ) (c : Step) → proposedTimes.Broken s p q list c → proposedTimes.Broken there p q list c
+  broken_same : (p q : ℕ) (list : List ℤ) (c : Step) → proposed_times.Broken s p q list c → proposed_times.Broken there p q list c
   broken_same p q list c b =
       record {
         present = (valid_same c b.present).0;
-        breaks = λ says. b.breaks (subst (λ (w : ℤ). Says q (proposedTimes.proposed s p q list) c.position c.kind c.to c.from w)
+        breaks = λ says. b.breaks (subst (λ (w : ℤ). Says q (proposed_times.proposed s p q list) c.position c.kind c.to c.from w)
             (sym (alike c.position c.kind c.to c.from b.present.to_event b.present.from_event)) says);
       }
 
@@ -184,34 +184,34 @@ module _ (s : Sheet) (tables : List ℤ) (schedule : List ℕ) (alike : Alike s 
   nodes_same h A1 i j w w' = (refl, refl)
   nodes_same h B1 i j w w' = (refl, refl)
 
-  follows_same : (list : List ℕ) (k : ℕ) (c : Step) → proposedArcs.Follows s list k c → proposedArcs.Follows there list k c
+  follows_same : (list : List ℕ) (k : ℕ) (c : Step) → proposed_arcs.Follows s list k c → proposed_arcs.Follows there list k c
   follows_same list zero c is = tt
   follows_same list (suc k) c is = λ d stands. sym (ends c).0 ∙ is d stands ∙ (ends d).1
     where
       ends : (d : Step) → ((step_arc s d).departure ≡ (step_arc there d).departure) × ((step_arc s d).arrival ≡ (step_arc there d).arrival)
       ends d = nodes_same d.position d.kind d.to d.from (limit s d) (limit there d)
 
-  good_same : (list : List ℕ) (k : ℕ) → proposedArcs.Good s list k → proposedArcs.Good there list k
+  good_same : (list : List ℕ) (k : ℕ) → proposed_arcs.Good s list k → proposed_arcs.Good there list k
   good_same list k g = record { step = g.step; stands = g.stands; present = (valid_same g.step g.present).0; follows = follows_same list k g.step g.follows }
 
-  sound_same : (p q : ℕ) (list : List ℕ) (steps : List Step) (k : ℕ) → proposedArcs.Sound s list steps → proposedArcs.Fault p q (map (step_arc s) steps) k
-      → proposedArcs.Sound there list steps × proposedArcs.Fault p q (map (step_arc there) steps) k
+  sound_same : (p q : ℕ) (list : List ℕ) (steps : List Step) (k : ℕ) → proposed_arcs.Sound s list steps → proposed_arcs.Fault p q (map (step_arc s) steps) k
+      → proposed_arcs.Sound there list steps × proposed_arcs.Fault p q (map (step_arc there) steps) k
   sound_same p q list steps k sound fault = (
     record { list_is = sound.list_is; good = λ j below. good_same list j (sound.good j below) },
-    subst (λ (l : List Arc). proposedArcs.Fault p q l k) (all_valid_same steps (sound_valid s list steps sound)).1 fault,
+    subst (λ (l : List Arc). proposed_arcs.Fault p q l k) (all_valid_same steps (sound_valid s list steps sound)).1 fault,
   )
 
 -- ---- what is broken, or bad, for the one is so for the other, and nothing comes before it there
 
 module _ (s : Sheet) (tables : List ℤ) (schedule : List ℕ) (alike : Alike s tables schedule) where
-  first_broken_same : (p q : ℕ) (list : List ℤ) (c : Step) → proposedTimes.FirstBroken s p q list c → proposedTimes.FirstBroken (lent s tables schedule) p q list c
+  first_broken_same : (p q : ℕ) (list : List ℤ) (c : Step) → proposed_times.FirstBroken s p q list c → proposed_times.FirstBroken (lent s tables schedule) p q list c
   first_broken_same p q list c is =
       record {
         broken = broken_same s tables schedule alike p q list c is.broken;
         first = λ d b before. is.first d (broken_same (lent s tables schedule) s.tables s.schedule (alike_back s tables schedule alike) p q list d b) before;
       }
 
-  first_bad_same : (list : List ℕ) (k : ℕ) → proposedArcs.FirstBad s list k → proposedArcs.FirstBad (lent s tables schedule) list k
+  first_bad_same : (list : List ℕ) (k : ℕ) → proposed_arcs.FirstBad s list k → proposed_arcs.FirstBad (lent s tables schedule) list k
   first_bad_same list k is =
       record {
         is_arc = is.is_arc;
@@ -246,28 +246,28 @@ module _ (s : Sheet) (tables : List ℤ) (schedule : List ℕ) (same : refusal s
     ends_alike a first last (ends.refused k e is some same same') = ends.refused k e (ends_refused ∙ is) some same same'
 
   module _ (p q : ℕ) (list : List ℤ) where
-    times_refused : proposedTimes.times_refusal (lent s tables schedule) p q list ≡ proposedTimes.times_refusal s p q list
+    times_refused : proposed_times.times_refusal (lent s tables schedule) p q list ≡ proposed_times.times_refusal s p q list
     times_refused = rw (← same)
 
     -- THEOREM: an outcome for proposed times for the sheet is one for the other
-    pub times_alike : (a : Answer) → proposedTimes.Outcome s p q list a → proposedTimes.Outcome (lent s tables schedule) p q list a
-    times_alike a (proposedTimes.accepted e none kept) =
-        proposedTimes.accepted e (times_refused ∙ none) (solves_there s tables schedule (alike (otherwise_none (refusal s) _ none).0) p q (proposedTimes.proposed s p q list) kept)
-    times_alike a (proposedTimes.broken c e none first) =
-        proposedTimes.broken c e (times_refused ∙ none) (first_broken_same s tables schedule (alike (otherwise_none (refusal s) _ none).0) p q list c first)
-    times_alike a (proposedTimes.refused k e is some) = proposedTimes.refused k e (times_refused ∙ is) some
+    pub times_alike : (a : Answer) → proposed_times.Outcome s p q list a → proposed_times.Outcome (lent s tables schedule) p q list a
+    times_alike a (proposed_times.accepted e none kept) =
+        proposed_times.accepted e (times_refused ∙ none) (solves_there s tables schedule (alike (otherwise_none (refusal s) _ none).0) p q (proposed_times.proposed s p q list) kept)
+    times_alike a (proposed_times.broken c e none first) =
+        proposed_times.broken c e (times_refused ∙ none) (first_broken_same s tables schedule (alike (otherwise_none (refusal s) _ none).0) p q list c first)
+    times_alike a (proposed_times.refused k e is some) = proposed_times.refused k e (times_refused ∙ is) some
 
   module _ (p q : ℕ) (list : List ℕ) where
-    arcs_refused : proposedArcs.arcs_refusal (lent s tables schedule) p q list ≡ proposedArcs.arcs_refusal s p q list
+    arcs_refused : proposed_arcs.arcs_refusal (lent s tables schedule) p q list ≡ proposed_arcs.arcs_refusal s p q list
     arcs_refused = rw (← same)
 
     -- THEOREM: an outcome for proposed arcs for the sheet is one for the other
-    pub arcs_alike : (a : Answer) → proposedArcs.Outcome s p q list a → proposedArcs.Outcome (lent s tables schedule) p q list a
-    arcs_alike a (proposedArcs.accepted cs e none is refutes) =
-        proposedArcs.accepted cs e (arcs_refused ∙ none) is (refutes_same s tables schedule (alike (otherwise_none (refusal s) _ none).0) p q cs refutes)
-    arcs_alike a (proposedArcs.bad k e none first) =
-        proposedArcs.bad k e (arcs_refused ∙ none) (first_bad_same s tables schedule (alike (otherwise_none (refusal s) _ none).0) list k first)
-    arcs_alike a (proposedArcs.faulty cs k e none sound fault) =
+    pub arcs_alike : (a : Answer) → proposed_arcs.Outcome s p q list a → proposed_arcs.Outcome (lent s tables schedule) p q list a
+    arcs_alike a (proposed_arcs.accepted cs e none is refutes) =
+        proposed_arcs.accepted cs e (arcs_refused ∙ none) is (refutes_same s tables schedule (alike (otherwise_none (refusal s) _ none).0) p q cs refutes)
+    arcs_alike a (proposed_arcs.bad k e none first) =
+        proposed_arcs.bad k e (arcs_refused ∙ none) (first_bad_same s tables schedule (alike (otherwise_none (refusal s) _ none).0) list k first)
+    arcs_alike a (proposed_arcs.faulty cs k e none sound fault) =
         let f = sound_same s tables schedule (alike (otherwise_none (refusal s) _ none).0) p q list cs k sound fault in
-        proposedArcs.faulty cs k e (arcs_refused ∙ none) f.0 f.1
-    arcs_alike a (proposedArcs.refused k e is some) = proposedArcs.refused k e (arcs_refused ∙ is) some
+        proposed_arcs.faulty cs k e (arcs_refused ∙ none) f.0 f.1
+    arcs_alike a (proposed_arcs.refused k e is some) = proposed_arcs.refused k e (arcs_refused ∙ is) some

@@ -8,7 +8,7 @@ use lib.IntN.{pos}
 use Rattle.tables.specs.Sheets.{Sheet, no_window, place}
 use Rattle.tables.proofs.Laws.{accepted}
 use Rattle.windows.specs.Windows.{mode}
-use Rattle.windows.proofs.Limits.{place_below, get_d_any}
+use Rattle.windows.proofs.Limits.{place_below, get_or_any}
 use Rattle.edges.specs.Naming.{limit_of, NamesPlace}
 
 products : (a b x y : ℕ) → a ≤ x → b ≤ y → a * b ≤ x * y
@@ -54,7 +54,7 @@ module _ (s : Sheet) (kind position to from : ℕ) (names : NamesPlace s kind po
         scheduled = omega (arith, names.to_last, ok.size.long_schedule);
         mode_below = omega (arith, ok.size.few_modes);
         inside = inside;
-        value = get_d_any s.tables _ (pos 0) no_window inside
+        value = get_or_any s.tables _ (pos 0) no_window inside
             ∙ ap (λ (t : ℕ). get_or s.tables (place s.n t kind to from) no_window) mode_is;
       }
 

@@ -10,7 +10,7 @@ use lib.ListN.{length, get_or, take, drop, length-drop}
 use lib.Seq.{get_or-drop, take_all}
 use Rattle.tables.specs.Sheets.{Sheet, no_window, place, places}
 use Rattle.windows.specs.Windows.{Kind, A0, number, Window, entry}
-use Rattle.windows.proofs.Limits.{number_small, place_below, get_d_any}
+use Rattle.windows.proofs.Limits.{number_small, place_below, get_or_any}
 use Rattle.edges.specs.declared.Record.{Record}
 
 -- a window as a record
@@ -63,7 +63,7 @@ module _ (s : Sheet) (t : ℕ) (mode : t < s.m) (long : places s.n s.m ≤ lengt
       let same = place_at s.n t (number k) i j in
       get_or-drop (t * (4 * (s.n * s.n))) s.tables (number k * (s.n * s.n) + (i * s.n + j)) (pos 0)
       ∙ ap (λ (x : ℕ). get_or s.tables x (pos 0)) same
-      ∙ get_d_any s.tables (place s.n t (number k) (suc i) (suc j)) (pos 0) no_window (omega arith)
+      ∙ get_or_any s.tables (place s.n t (number k) (suc i) (suc j)) (pos 0) no_window (omega arith)
 
 -- ---- the parts of the modes
 

@@ -87,9 +87,9 @@ module _ (tables : List ℤ) (n : ℕ) where
     pub laid : Laid (so_far t k) l
     pub count : w ≡ length (so_far t k)
 
-  pub fill_none : Filling 0 0 (replicate 4608 blank) 0
+  pub fill_none : (l : List Record) → length l ≡ 4608 → Filling 0 0 l 0
   unfolding laid_out records_in
-  fill_none = record { room = length-replicate 4608 blank; laid = λ i h. absurd (omega arith); count = refl }
+  fill_none l room = record { room = room; laid = λ i h. absurd (omega arith); count = refl }
 
   pub fill_few : (t k : ℕ) (l : List Record) (w : ℕ) → Filling t k l w → w ≤ t * size + k
   fill_few t k l w f = omega (arith, f.count, length-append (laid_out tables n t) (records_in (part t) n k), laid_few tables n t, records_few (part t) n k)

@@ -60,18 +60,11 @@ fn next_window(part: &[i32], n: usize, from: usize) -> usize
 }
 
 // Lays out the windows of m modes, one mode's after the other's, each mode from the part of the tables that starts at 4t·n².
-pub fn lay_out(tables: &[i32], n: usize, m: usize) -> [Record; tables::PLACES]
+pub fn lay_out(tables: &[i32], n: usize, m: usize, list: &mut [Record; tables::PLACES])
     requires { (0 < n) × (n ≤ 12) × (m ≤ 8) × (m * (4 * (n * n)) ≤ length tables.now) }
-    ensures { Laid (laid_out tables.now n m) result }
+    ensures { Laid (laid_out tables.now n m) list.new }
 {
     let size = 4 * (n * n);
-    let blank = Record {
-        kind: 0,
-        to: 0,
-        from: 0,
-        w: 0,
-    };
-    let mut list = [blank; tables::PLACES];
     let mut w: usize = 0;
     let mut t: usize = 0;
     while t < m {
@@ -85,5 +78,4 @@ pub fn lay_out(tables: &[i32], n: usize, m: usize) -> [Record; tables::PLACES]
         }
         t += 1;
     }
-    list
 }

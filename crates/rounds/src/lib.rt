@@ -39,8 +39,15 @@ pub fn run(
     let mut old = zeros();
     let left = job.positions * job.n * job.positions;
     let begin = turns::turn_at(left, 0, 0, 0, job, schedule);
-    let list = layout::lay_out(tables, job.n, m);
-    let end = walk::walk(list, begin, job, schedule, &mut old, times, row);
+    let blank = edges::Record {
+        kind: 0,
+        to: 0,
+        from: 0,
+        w: 0,
+    };
+    let mut list = [blank; tables::PLACES];
+    layout::lay_out(tables, job.n, m, &mut list);
+    let end = walk::walk(&list, begin, job, schedule, &mut old, times, row);
     Last {
         rounds: end.round,
         node: end.node,

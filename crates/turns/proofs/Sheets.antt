@@ -20,7 +20,7 @@ use Rattle.tables.proofs.Laws.{few_places}
 use Rattle.windows.specs.Windows.{number, Window, Event, Has, mode}
 use Rattle.windows.specs.Arcs.{up, down, arc_of, one_to, each, windows, arcs_at, arcs}
 use Rattle.windows.proofs.Listed.{each_more, windows_of_lem}
-use Rattle.windows.proofs.Limits.{number_small, place_below, get_d_any, admits_limit}
+use Rattle.windows.proofs.Limits.{number_small, place_below, get_or_any, admits_limit}
 use Rattle.edges.specs.declared.Edge.{Edge}
 use Rattle.edges.specs.declared.Record.{Record}
 use Rattle.layout.specs.Records.{listed, mode_records}
@@ -159,7 +159,7 @@ module _ (s : Sheet) (ok : Admitted s) (p q : ℕ) (l : List Record) (start : Li
   small t h a has =
       let k = place s.n t (number a.kind) a.to a.from in
       let below : k < places s.n s.m = place_below s.n s.m t (number a.kind) a.to a.from h (number_small a.kind) has.to_event.0 has.to_event.1 has.from_event.0 has.from_event.1 in
-      let is : get_or s.tables k (pos 0) ≡ a.w = get_d_any s.tables k (pos 0) no_window (omega (arith, ok.size.long_tables)) ∙ has.stands in
+      let is : get_or s.tables k (pos 0) ≡ a.w = get_or_any s.tables k (pos 0) no_window (omega (arith, ok.size.long_tables)) ∙ has.stands in
       admits_limit a.w (ap admits (sym is) ∙ ok.values k below) has.present
 
   -- the record k is fine

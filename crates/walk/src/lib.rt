@@ -1,6 +1,6 @@
 // The walk over the list of records: the arcs of one turn, one after the other, and turn after turn while one is left.
 // This crate knows how the list is lent, a mode's part at each position where it stands; what an arc and a turn do is in `turns`.
-// It renders document 01's "laid out once as a list of records and each round walks the list". Both functions are proved by hand.
+// It renders document 01's "laid out once as a list of records and each round walks the list".
 #![tactic(auto)]
 
 ghost use Rattle.std.specs.Prelude.{◌≡◌, ℕ, ◌*◌, ◌<◌, length, get_or};
@@ -21,7 +21,7 @@ fn pass(records: &[edges::Record], turn: turns::Turn, old: &[u64], new: &mut [u6
 
 // Walks the list, the part of a position's mode at each turn, while turns are left.
 pub fn walk(
-    list: [edges::Record; tables::PLACES],
+    list: &[edges::Record; tables::PLACES],
     begin: turns::Turn,
     job: turns::Job,
     schedule: &[u8],
@@ -29,8 +29,8 @@ pub fn walk(
     new: &mut [u64],
     row: &mut [u16],
 ) -> turns::Turn
-    requires { Posed job schedule.now × Parts list job.n job.start schedule.now job.positions × (begin ≡ turn_of (job.positions * job.n * job.positions) 0 0 0 job schedule.now) × (new.old ≡ old.old) × ((v : ℕ) → get_or old.old v 0 ≡ 0) × (length old.old ≡ 192) × (length row.old ≡ 192) }
-    ensures { Ran (round_of list job schedule.now) (job.positions * job.n) result.round result.node new.new row.new }
+    requires { Posed job schedule.now × Parts list.now job.n job.start schedule.now job.positions × (begin ≡ turn_of (job.positions * job.n * job.positions) 0 0 0 job schedule.now) × (new.old ≡ old.old) × ((v : ℕ) → get_or old.old v 0 ≡ 0) × (length old.old ≡ 192) × (length row.old ≡ 192) }
+    ensures { Ran (round_of list.now job schedule.now) (job.positions * job.n) result.round result.node new.new row.new }
 {
     let records = &list[..];
     let mut turn = begin;

@@ -36,10 +36,10 @@ place_below n m t kind to from modes few first last first' last' =
     omega arith
 
 -- inside a list the default does not matter
-pub get_d_any : {A : Type 0} (l : List A) (i : ℕ) (d e : A) → i < length l → get_or l i d ≡ get_or l i e
-get_d_any [] i d e h = absurd (omega arith)
-get_d_any (a ∷ l) zero d e h = refl
-get_d_any (a ∷ l) (suc i) d e h = get_d_any l i d e (omega arith)
+pub get_or_any : {A : Type 0} (l : List A) (i : ℕ) (d e : A) → i < length l → get_or l i d ≡ get_or l i e
+get_or_any [] i d e h = absurd (omega arith)
+get_or_any (a ∷ l) zero d e h = refl
+get_or_any (a ∷ l) (suc i) d e h = get_or_any l i d e (omega arith)
 
 -- an admitted value that is a window is within the limit
 pub admits_limit : (v : ℤ) → admits v ≡ true → v ≢ no_window → (up v ≤ 1000000) × (down v ≤ 1000000)
@@ -63,7 +63,7 @@ module _ (s : Sheet) (ok : Admitted s) where
   window_small h first last a has =
       let k = place s.n (mode s h) (number a.kind) a.to a.from in
       let below : k < places s.n s.m = place_below s.n s.m (mode s h) (number a.kind) a.to a.from (mode_below h) (number_small a.kind) has.to_event.0 has.to_event.1 has.from_event.0 has.from_event.1 in
-      let same : get_or s.tables k (pos 0) ≡ a.w = get_d_any s.tables k (pos 0) no_window (omega (arith, ok.size.long_tables)) ∙ has.stands in
+      let same : get_or s.tables k (pos 0) ≡ a.w = get_or_any s.tables k (pos 0) no_window (omega (arith, ok.size.long_tables)) ∙ has.stands in
       admits_limit a.w (ap admits (sym same) ∙ ok.values k below) has.present
 
   -- THEOREM: an admitted sheet's arcs run between its N nodes, with limits up to 1,000,000, and leave at most n nodes across the period's end

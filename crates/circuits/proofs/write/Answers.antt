@@ -29,12 +29,12 @@ overflow_mul-count c = omega (arith, c.requires.1, c.loop-j.invariant.1.some)
 pub write_arc-requires : goal.write_arc-requires
 write_arc-requires c =
     let in_row : c.loop-j.x < c.args.positions * c.args.n = let a = c.args in sound_here a.row.now a.n a.positions a.s c.requires.0 c.loop-j.j c.loop-j.x c.loop-j.invariant.1.there in
-    let next-in-row : get_or c.args.row.now c.loop-j.x 0 / 8 < c.args.positions * c.args.n = let a = c.args in sound_next a.row.now a.n a.positions a.s c.requires.0 c.loop-j.j c.loop-j.x c.loop-j.invariant.1.there in
+    let next_in_row : get_or c.args.row.now c.loop-j.x 0 / 8 < c.args.positions * c.args.n = let a = c.args in sound_next a.row.now a.n a.positions a.s c.requires.0 c.loop-j.j c.loop-j.x c.loop-j.invariant.1.there in
     let r = c.requires.0.rowed in (
       omega (arith, c.requires.2, c.loop-j.invariant.0, c.loop-j.invariant.1.some, c.loop-j-test.true),
       r.some,
       omega (arith, r.few, in_row),
-      omega (arith, r.few, next-in-row),
+      omega (arith, r.few, next_in_row),
     )
 
 pub loop-j-smaller : goal.loop-j-smaller

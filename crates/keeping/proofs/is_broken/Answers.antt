@@ -19,9 +19,9 @@ pub is_kept-requires : goal.is_kept-requires
 is_kept-requires c =
     let is : c.is_absent.result ≡ absent c.args.value = c.is_absent.ensures ∙ ap absent (passed c.args.value c.ranges.value.sfits) in
     let there : absent c.args.value ≡ false = sym is ∙ c.if-is_absent.false in
-    let from-place-is : c.from_place-w.result ≡ from_place c.args.line.n c.args.k c.args.value = c.from_place-w.ensures ∙ ap (from_place c.args.line.n c.args.k) (passed c.args.value c.ranges.value.sfits) in
+    let from_place_is : c.from_place-w.result ≡ from_place c.args.line.n c.args.k c.args.value = c.from_place-w.ensures ∙ ap (from_place c.args.line.n c.args.k) (passed c.args.value c.ranges.value.sfits) in
     let a = c.args in
-    subst (λ (w : Record). Able a.line a.g w a.times.now) (sym from-place-is)
+    subst (λ (w : Record). Able a.line a.g w a.times.now) (sym from_place_is)
     (record { limits = c.requires.limits; to_first = omega arith; from_first = omega arith; reach = c.requires.reach there })
 
 pub returns : goal.returns
@@ -29,6 +29,6 @@ unfolding breaks_at
 returns c =
     let is : c.is_absent.result ≡ absent c.args.value = c.is_absent.ensures ∙ ap absent (passed c.args.value c.ranges.value.sfits) in
     let there : absent c.args.value ≡ false = sym is ∙ c.if-is_absent.false in
-    let from-place-is : c.from_place-w.result ≡ from_place c.args.line.n c.args.k c.args.value = c.from_place-w.ensures ∙ ap (from_place c.args.line.n c.args.k) (passed c.args.value c.ranges.value.sfits) in
+    let from_place_is : c.from_place-w.result ≡ from_place c.args.line.n c.args.k c.args.value = c.from_place-w.ensures ∙ ap (from_place c.args.line.n c.args.k) (passed c.args.value c.ranges.value.sfits) in
     let a = c.args in
-    rw there (ap not (c.is_kept.ensures ∙ ap (λ (w : Record). keeps_at a.line a.g w a.times.now) from-place-is))
+    rw there (ap not (c.is_kept.ensures ∙ ap (λ (w : Record). keeps_at a.line a.g w a.times.now) from_place_is))

@@ -21,7 +21,7 @@ pub overflow_mul-size-2 : goal.overflow_mul-size-2
 overflow_mul-size-2 c = omega (arith, square c.args.n c.requires.1)
 
 pub loop-t-init : goal.loop-t-init
-loop-t-init c = (omega arith, fill_none c.args.tables.now c.args.n)
+loop-t-init c = (omega arith, fill_none c.args.tables.now c.args.n c.args.list.now c.told-list)
 
 pub overflow_mul-first : goal.overflow_mul-first
 overflow_mul-first c =

@@ -13,8 +13,8 @@ use Rattle.tables.specs.Sheets.{absent}
 use Rattle.layout.proofs.next_window.Invariants.{Bare}
 use Rattle.layout.proofs.next_window.Goals as goal
 
-bare-more : (part : List ℤ) (a k : ℕ) → Bare part a k → absent (get_or part k (pos 0)) ≡ true → Bare part a (k + 1)
-bare-more part a k h e j p q =
+bare_more : (part : List ℤ) (a k : ℕ) → Bare part a k → absent (get_or part k (pos 0)) ≡ true → Bare part a (k + 1)
+bare_more part a k h e j p q =
     elim (dec_lt j k) [
       | yes x ↦ h j p x
       | no x ↦ let same : k ≡ j = omega arith in subst (λ (i : ℕ). absent (get_or part i (pos 0)) ≡ true) same e
@@ -45,7 +45,7 @@ pub loop-k-preserved : goal.loop-k-preserved
 loop-k-preserved c =
     let told : absent (get_or c.args.part.now c.loop-k.k (pos 0)) ≡ c.is_absent.result = ap absent (sym (passed (get_or c.args.part.now c.loop-k.k (pos 0)) c.is_absent-arg-1.given)) ∙ sym c.is_absent.ensures in
     let i = c.loop-k.invariant in
-    (omega (arith, i.0), omega (arith, c.loop-k-test.true), bare-more c.args.part.now c.args.from c.loop-k.k i.2 (told ∙ c.if-not-is_absent.false))
+    (omega (arith, i.0), omega (arith, c.loop-k-test.true), bare_more c.args.part.now c.args.from c.loop-k.k i.2 (told ∙ c.if-not-is_absent.false))
 
 pub returns : goal.returns
 returns c = let i = c.loop-k.invariant in record { from = i.0; within = i.1; passed = i.2; window = λ h. absurd (omega (arith, c.loop-k-test.false)) }

@@ -18,8 +18,8 @@ use Rattle.records.proofs.read_value.Goals as goal
 in-limit : (u : ℕ) → u ≤ 2000000 → in_limit (decoded u) ≡ true
 in-limit u h = sym (limits u) ∙ up_to u 2000000 ∙ le-leb u 2000000 h
 
-past-limit : (u : ℕ) → 2000000 < u → in_limit (decoded u) ≡ false
-past-limit u h = sym (limits u) ∙ up_to u 2000000 ∙ lt-leb u 2000000 h
+past_limit : (u : ℕ) → 2000000 < u → in_limit (decoded u) ≡ false
+past_limit u h = sym (limits u) ∙ up_to u 2000000 ∙ lt-leb u 2000000 h
 
 -- the two ways of a record whose numbers are right
 module _ (start low p : ℕ) (v : ℤ) (next : ℕ) where
@@ -40,7 +40,7 @@ pub returns-then-code-gt-MOST_CODE : goal.returns-then-code-gt-MOST_CODE
 unfolding value_at
 returns-then-code-gt-MOST_CODE c =
     let code_at : number_at c.args.file.now c.args.at ≡ Value c.in-Value.code c.in-Value.fourth c.in-Value.next = sym c.number_at-read.ensures ∙ c.in-Value.is in
-    rw c.bad.ensures (sym (after_refused _ _ _ (tested_no (λ u. in_limit (decoded u)) 6 _ _ _ _ code_at (past-limit c.in-Value.code c.if-code-gt-MOST_CODE.true))))
+    rw c.bad.ensures (sym (after_refused _ _ _ (tested_no (λ u. in_limit (decoded u)) 6 _ _ _ _ code_at (past_limit c.in-Value.code c.if-code-gt-MOST_CODE.true))))
 
 pub returns-then-place-low : goal.returns-then-place-low
 unfolding value_at

@@ -24,51 +24,51 @@ pub loop-turn-init : goal.loop-turn-init
 loop-turn-init c = λ posed parts room.
     let a = c.args in
     let r = c.requires in
-    state_none a.list a.job a.schedule.now posed parts room a.begin a.old.now a.new.now a.row.now r.2 r.3 r.4 r.5 r.6
+    state_none a.list.now a.job a.schedule.now posed parts room a.begin a.old.now a.new.now a.row.now r.2 r.3 r.4 r.5 r.6
 
 pub offset_bounds-records-turn : goal.offset_bounds-records-turn
 offset_bounds-records-turn c =
-    let r = ready_turn c.args.list c.args.job c.args.schedule.now c.requires.0 c.requires.1 c.well_formed.0.1.0.1 c.loop-turn.turn c.loop-turn.old c.loop-turn.new c.loop-turn.row c.loop-turn.invariant c.loop-turn-test.true in
-    omega (arith, r.part_in, r.part_below, c.well_formed.0.1.0.1)
+    let r = ready_turn c.args.list.now c.args.job c.args.schedule.now c.requires.0 c.requires.1 c.told-list c.loop-turn.turn c.loop-turn.old c.loop-turn.new c.loop-turn.row c.loop-turn.invariant c.loop-turn-test.true in
+    omega (arith, r.part_in, r.part_below, c.told-list)
 
 pub slice_bounds-pass-count : goal.slice_bounds-pass-count
 slice_bounds-pass-count c =
-    let r = ready_turn c.args.list c.args.job c.args.schedule.now c.requires.0 c.requires.1 c.well_formed.0.1.0.1 c.loop-turn.turn c.loop-turn.old c.loop-turn.new c.loop-turn.row c.loop-turn.invariant c.loop-turn-test.true in
+    let r = ready_turn c.args.list.now c.args.job c.args.schedule.now c.requires.0 c.requires.1 c.told-list c.loop-turn.turn c.loop-turn.old c.loop-turn.new c.loop-turn.row c.loop-turn.invariant c.loop-turn-test.true in
     r.part_in
 
 pub slice_bounds-pass-start : goal.slice_bounds-pass-start
 slice_bounds-pass-start c =
-    let r = ready_turn c.args.list c.args.job c.args.schedule.now c.requires.0 c.requires.1 c.well_formed.0.1.0.1 c.loop-turn.turn c.loop-turn.old c.loop-turn.new c.loop-turn.row c.loop-turn.invariant c.loop-turn-test.true in
+    let r = ready_turn c.args.list.now c.args.job c.args.schedule.now c.requires.0 c.requires.1 c.told-list c.loop-turn.turn c.loop-turn.old c.loop-turn.new c.loop-turn.row c.loop-turn.invariant c.loop-turn-test.true in
     r.part_in
 
 pub slice_bounds-pass-end : goal.slice_bounds-pass-end
 slice_bounds-pass-end c =
-    let r = ready_turn c.args.list c.args.job c.args.schedule.now c.requires.0 c.requires.1 c.well_formed.0.1.0.1 c.loop-turn.turn c.loop-turn.old c.loop-turn.new c.loop-turn.row c.loop-turn.invariant c.loop-turn-test.true in
+    let r = ready_turn c.args.list.now c.args.job c.args.schedule.now c.requires.0 c.requires.1 c.told-list c.loop-turn.turn c.loop-turn.old c.loop-turn.new c.loop-turn.row c.loop-turn.invariant c.loop-turn-test.true in
     r.part_below
 
 pub pass-requires : goal.pass-requires
 pass-requires c =
-    let r = ready_turn c.args.list c.args.job c.args.schedule.now c.requires.0 c.requires.1 c.well_formed.0.1.0.1 c.loop-turn.turn c.loop-turn.old c.loop-turn.new c.loop-turn.row c.loop-turn.invariant c.loop-turn-test.true in
+    let r = ready_turn c.args.list.now c.args.job c.args.schedule.now c.requires.0 c.requires.1 c.told-list c.loop-turn.turn c.loop-turn.old c.loop-turn.new c.loop-turn.row c.loop-turn.invariant c.loop-turn-test.true in
     r.able
 
 pub next-turn-requires : goal.next-turn-requires
 next-turn-requires c =
-    let r = ready_turn c.args.list c.args.job c.args.schedule.now c.requires.0 c.requires.1 c.well_formed.0.1.0.1 c.loop-turn.turn c.loop-turn.old c.loop-turn.new c.loop-turn.row c.loop-turn.invariant c.loop-turn-test.true in
-    let s = c.loop-turn.invariant c.requires.0 c.requires.1 c.well_formed.0.1.0.1 in
+    let r = ready_turn c.args.list.now c.args.job c.args.schedule.now c.requires.0 c.requires.1 c.told-list c.loop-turn.turn c.loop-turn.old c.loop-turn.new c.loop-turn.row c.loop-turn.invariant c.loop-turn-test.true in
+    let s = c.loop-turn.invariant c.requires.0 c.requires.1 c.told-list in
     (c.requires.0, c.loop-turn-test.true, r.here, r.round, c.pass.auto.new ∙ s.new_long ∙ sym s.old_long, omega (arith, s.old_long))
 
 pub loop-turn-preserved : goal.loop-turn-preserved
 loop-turn-preserved c = λ posed parts room.
-    (more c.args.list c.args.job c.args.schedule.now posed parts room c.loop-turn.turn c.loop-turn.old c.loop-turn.new c.loop-turn.row (c.loop-turn.invariant posed parts room) c.loop-turn-test.true
+    (more c.args.list.now c.args.job c.args.schedule.now posed parts room c.loop-turn.turn c.loop-turn.old c.loop-turn.new c.loop-turn.row (c.loop-turn.invariant posed parts room) c.loop-turn-test.true
     c.pass.new.new c.pass.new.row c.pass.ensures c.pass.auto.new c.pass.auto.row c.next-turn.result c.next-turn.new.old c.next-turn.ensures).0
 
 pub loop-turn-smaller : goal.loop-turn-smaller
 loop-turn-smaller c =
     let posed = c.requires.0 in
-    (more c.args.list c.args.job c.args.schedule.now c.requires.0 c.requires.1 c.well_formed.0.1.0.1 c.loop-turn.turn c.loop-turn.old c.loop-turn.new c.loop-turn.row (c.loop-turn.invariant c.requires.0 c.requires.1 c.well_formed.0.1.0.1) c.loop-turn-test.true
+    (more c.args.list.now c.args.job c.args.schedule.now c.requires.0 c.requires.1 c.told-list c.loop-turn.turn c.loop-turn.old c.loop-turn.new c.loop-turn.row (c.loop-turn.invariant c.requires.0 c.requires.1 c.told-list) c.loop-turn-test.true
     c.pass.new.new c.pass.new.row c.pass.ensures c.pass.auto.new c.pass.auto.row c.next-turn.result c.next-turn.new.old c.next-turn.ensures).1
 
 pub returns : goal.returns
 returns c =
-    let s = c.loop-turn.invariant c.requires.0 c.requires.1 c.well_formed.0.1.0.1 in
+    let s = c.loop-turn.invariant c.requires.0 c.requires.1 c.told-list in
     s.over (omega (arith, c.loop-turn-test.false))

@@ -8,12 +8,12 @@ use Rattle.weights.proofs.Weighing.{weights_step, light_more}
 use Rattle.weights.proofs.weigh.Goals as goal
 
 -- nothing is light
-light-none : (w : Weight) → w ≡ weight 0 0 0 0 → Light 0 w
-light-none w e = rw e (omega arith, omega arith, omega arith, omega arith)
+light_none : (w : Weight) → w ≡ weight 0 0 0 0 → Light 0 w
+light_none w e = rw e (omega arith, omega arith, omega arith, omega arith)
 
 pub loop-k-init : goal.loop-k-init
 unfolding weights_in
-loop-k-init c = (omega arith, c.sums-total.ensures, light-none c.sums-total.result c.sums-total.ensures)
+loop-k-init c = (omega arith, c.sums-total.ensures, light_none c.sums-total.result c.sums-total.ensures)
 
 pub weigh_at-arc-requires : goal.weigh_at-arc-requires
 weigh_at-arc-requires c = let l = c.requires in

@@ -16,8 +16,8 @@ use Rattle.writer.proofs.write_modes.Goals as goal
 nothing : (k : ℕ) → 0 * k ≡ 0
 nothing k = omega arith
 
-suc-is : (t k : ℕ) → suc t * k ≡ t * k + k
-suc-is t k = suc-mul t k
+suc_is : (t k : ℕ) → suc t * k ≡ t * k + k
+suc_is t k = suc-mul t k
 
 pub overflow_mul-size : goal.overflow_mul-size
 overflow_mul-size c = omega (arith, few c.args.n c.requires.1)
@@ -36,7 +36,7 @@ loop-t-init c = let a = c.args in (
 pub overflow_mul-start : goal.overflow_mul-start
 overflow_mul-start c =
     let fit : (c.loop-t.t * (4 * (c.args.n * c.args.n)) + 4 * (c.args.n * c.args.n) ≤ length c.args.tables.now) × (c.loop-t.t * (4 * (c.args.n * c.args.n)) ≤ 4608) = let k = 4 * (c.args.n * c.args.n) in (
-      omega (arith, mul-le-mul_right k c.loop-t-test.true, add-mul c.loop-t.t 1 k, c.requires.3, suc-is c.loop-t.t k),
+      omega (arith, mul-le-mul_right k c.loop-t-test.true, add-mul c.loop-t.t 1 k, c.requires.3, suc_is c.loop-t.t k),
       mul-le-mul {n₁ = c.loop-t.t} {n₂ = 8} (omega (arith, c.loop-t-test.true, c.requires.2)) (few c.args.n c.requires.1),
     ) in
     omega (arith, fit.1)
@@ -44,7 +44,7 @@ overflow_mul-start c =
 pub offset_bounds-tables-start : goal.offset_bounds-tables-start
 offset_bounds-tables-start c =
     let fit : (c.loop-t.t * (4 * (c.args.n * c.args.n)) + 4 * (c.args.n * c.args.n) ≤ length c.args.tables.now) × (c.loop-t.t * (4 * (c.args.n * c.args.n)) ≤ 4608) = let k = 4 * (c.args.n * c.args.n) in (
-      omega (arith, mul-le-mul_right k c.loop-t-test.true, add-mul c.loop-t.t 1 k, c.requires.3, suc-is c.loop-t.t k),
+      omega (arith, mul-le-mul_right k c.loop-t-test.true, add-mul c.loop-t.t 1 k, c.requires.3, suc_is c.loop-t.t k),
       mul-le-mul {n₁ = c.loop-t.t} {n₂ = 8} (omega (arith, c.loop-t-test.true, c.requires.2)) (few c.args.n c.requires.1),
     ) in
     let f = fit in omega (arith, f.0, f.1)
@@ -52,7 +52,7 @@ offset_bounds-tables-start c =
 pub slice_bounds-write_mode-count : goal.slice_bounds-write_mode-count
 slice_bounds-write_mode-count c =
     let fit : (c.loop-t.t * (4 * (c.args.n * c.args.n)) + 4 * (c.args.n * c.args.n) ≤ length c.args.tables.now) × (c.loop-t.t * (4 * (c.args.n * c.args.n)) ≤ 4608) = let k = 4 * (c.args.n * c.args.n) in (
-      omega (arith, mul-le-mul_right k c.loop-t-test.true, add-mul c.loop-t.t 1 k, c.requires.3, suc-is c.loop-t.t k),
+      omega (arith, mul-le-mul_right k c.loop-t-test.true, add-mul c.loop-t.t 1 k, c.requires.3, suc_is c.loop-t.t k),
       mul-le-mul {n₁ = c.loop-t.t} {n₂ = 8} (omega (arith, c.loop-t-test.true, c.requires.2)) (few c.args.n c.requires.1),
     ) in
     let f = fit in omega (arith, f.0, f.1)
@@ -60,7 +60,7 @@ slice_bounds-write_mode-count c =
 pub slice_bounds-write_mode-start : goal.slice_bounds-write_mode-start
 slice_bounds-write_mode-start c =
     let fit : (c.loop-t.t * (4 * (c.args.n * c.args.n)) + 4 * (c.args.n * c.args.n) ≤ length c.args.tables.now) × (c.loop-t.t * (4 * (c.args.n * c.args.n)) ≤ 4608) = let k = 4 * (c.args.n * c.args.n) in (
-      omega (arith, mul-le-mul_right k c.loop-t-test.true, add-mul c.loop-t.t 1 k, c.requires.3, suc-is c.loop-t.t k),
+      omega (arith, mul-le-mul_right k c.loop-t-test.true, add-mul c.loop-t.t 1 k, c.requires.3, suc_is c.loop-t.t k),
       mul-le-mul {n₁ = c.loop-t.t} {n₂ = 8} (omega (arith, c.loop-t-test.true, c.requires.2)) (few c.args.n c.requires.1),
     ) in
     let f = fit in omega (arith, f.0, f.1)
@@ -68,7 +68,7 @@ slice_bounds-write_mode-start c =
 pub slice_bounds-write_mode-end : goal.slice_bounds-write_mode-end
 slice_bounds-write_mode-end c =
     let fit : (c.loop-t.t * (4 * (c.args.n * c.args.n)) + 4 * (c.args.n * c.args.n) ≤ length c.args.tables.now) × (c.loop-t.t * (4 * (c.args.n * c.args.n)) ≤ 4608) = let k = 4 * (c.args.n * c.args.n) in (
-      omega (arith, mul-le-mul_right k c.loop-t-test.true, add-mul c.loop-t.t 1 k, c.requires.3, suc-is c.loop-t.t k),
+      omega (arith, mul-le-mul_right k c.loop-t-test.true, add-mul c.loop-t.t 1 k, c.requires.3, suc_is c.loop-t.t k),
       mul-le-mul {n₁ = c.loop-t.t} {n₂ = 8} (omega (arith, c.loop-t-test.true, c.requires.2)) (few c.args.n c.requires.1),
     ) in
     let f = fit in omega (arith, f.0, f.1)
@@ -76,7 +76,7 @@ slice_bounds-write_mode-end c =
 pub write_mode-p-requires : goal.write_mode-p-requires
 write_mode-p-requires c =
     let fit : (c.loop-t.t * (4 * (c.args.n * c.args.n)) + 4 * (c.args.n * c.args.n) ≤ length c.args.tables.now) × (c.loop-t.t * (4 * (c.args.n * c.args.n)) ≤ 4608) = let k = 4 * (c.args.n * c.args.n) in (
-      omega (arith, mul-le-mul_right k c.loop-t-test.true, add-mul c.loop-t.t 1 k, c.requires.3, suc-is c.loop-t.t k),
+      omega (arith, mul-le-mul_right k c.loop-t-test.true, add-mul c.loop-t.t 1 k, c.requires.3, suc_is c.loop-t.t k),
       mul-le-mul {n₁ = c.loop-t.t} {n₂ = 8} (omega (arith, c.loop-t-test.true, c.requires.2)) (few c.args.n c.requires.1),
     ) in
     let f = fit in
@@ -86,7 +86,7 @@ write_mode-p-requires c =
 pub loop-t-preserved : goal.loop-t-preserved
 loop-t-preserved c =
     let fit : (c.loop-t.t * (4 * (c.args.n * c.args.n)) + 4 * (c.args.n * c.args.n) ≤ length c.args.tables.now) × (c.loop-t.t * (4 * (c.args.n * c.args.n)) ≤ 4608) = let k = 4 * (c.args.n * c.args.n) in (
-      omega (arith, mul-le-mul_right k c.loop-t-test.true, add-mul c.loop-t.t 1 k, c.requires.3, suc-is c.loop-t.t k),
+      omega (arith, mul-le-mul_right k c.loop-t-test.true, add-mul c.loop-t.t 1 k, c.requires.3, suc_is c.loop-t.t k),
       mul-le-mul {n₁ = c.loop-t.t} {n₂ = 8} (omega (arith, c.loop-t-test.true, c.requires.2)) (few c.args.n c.requires.1),
     ) in
     let a = c.args in
