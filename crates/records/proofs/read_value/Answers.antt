@@ -15,8 +15,8 @@ use Rattle.records.proofs.Ranges.{limits, up_to, refused_is}
 use Rattle.records.proofs.read_value.Goals as goal
 
 -- the limits as the file has them
-in-limit : (u : ℕ) → u ≤ 2000000 → in_limit (decoded u) ≡ true
-in-limit u h = sym (limits u) ∙ up_to u 2000000 ∙ le-leb u 2000000 h
+within_limit : (u : ℕ) → u ≤ 2000000 → in_limit (decoded u) ≡ true
+within_limit u h = sym (limits u) ∙ up_to u 2000000 ∙ le-leb u 2000000 h
 
 past_limit : (u : ℕ) → 2000000 < u → in_limit (decoded u) ≡ false
 past_limit u h = sym (limits u) ∙ up_to u 2000000 ∙ lt-leb u 2000000 h
@@ -46,7 +46,7 @@ pub returns-then-place-low : goal.returns-then-place-low
 unfolding value_at
 returns-then-place-low c =
     let code_at : number_at c.args.file.now c.args.at ≡ Value c.in-Value.code c.in-Value.fourth c.in-Value.next = sym c.number_at-read.ensures ∙ c.in-Value.is in
-    let left : value_at c.args.file.now c.args.start c.args.low c.args.place c.args.at ≡ rising c.args.start c.args.low c.args.place (decoded c.in-Value.code) c.in-Value.next = after_value _ _ _ _ (tested_yes (λ u. in_limit (decoded u)) 6 _ _ _ code_at (in-limit c.in-Value.code c.if-code-gt-MOST_CODE.false)) in
+    let left : value_at c.args.file.now c.args.start c.args.low c.args.place c.args.at ≡ rising c.args.start c.args.low c.args.place (decoded c.in-Value.code) c.in-Value.next = after_value _ _ _ _ (tested_yes (λ u. in_limit (decoded u)) 6 _ _ _ code_at (within_limit c.in-Value.code c.if-code-gt-MOST_CODE.false)) in
     rw c.bad-then-place-low.ensures (sym (left ∙ rising-no _ _ _ _ _ c.if-place-low.true))
 
 pub overflow_cast-result : goal.overflow_cast-result
@@ -56,5 +56,5 @@ pub returns : goal.returns
 unfolding value_at
 returns c =
     let code_at : number_at c.args.file.now c.args.at ≡ Value c.in-Value.code c.in-Value.fourth c.in-Value.next = sym c.number_at-read.ensures ∙ c.in-Value.is in
-    let left : value_at c.args.file.now c.args.start c.args.low c.args.place c.args.at ≡ rising c.args.start c.args.low c.args.place (decoded c.in-Value.code) c.in-Value.next = after_value _ _ _ _ (tested_yes (λ u. in_limit (decoded u)) 6 _ _ _ code_at (in-limit c.in-Value.code c.if-code-gt-MOST_CODE.false)) in
+    let left : value_at c.args.file.now c.args.start c.args.low c.args.place c.args.at ≡ rising c.args.start c.args.low c.args.place (decoded c.in-Value.code) c.in-Value.next = after_value _ _ _ _ (tested_yes (λ u. in_limit (decoded u)) 6 _ _ _ code_at (within_limit c.in-Value.code c.if-code-gt-MOST_CODE.false)) in
     sym (left ∙ rising-yes _ _ _ _ _ c.if-place-low.false)
