@@ -32,7 +32,8 @@ fn finish(
     let nodes = positions * n;
     let rounds = last.rounds;
     let node = last.node;
-    if rounds < nodes {
+    let stood_still = rounds < nodes;
+    if stood_still {
         turns::write_times(times, nodes, plan);
         return Asked::Accepted {
             rounds: rounds as u64,

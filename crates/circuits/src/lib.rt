@@ -46,7 +46,8 @@ fn go_round(n: usize, positions: usize, row: &[u16], u: usize) -> Ring
     let first = row[u];
     let mut x = departure(first);
     while x != u {
-        if x < least {
+        let is_less = x < least;
+        if is_less {
             least = x;
         }
         count += 1;

@@ -179,7 +179,8 @@ pub fn ends(
     ensures { Outcome (sheet n m positions tables.now schedule.now) first.old second.old (answer_ended result) first.new second.new }
 {
     let refusal = tables::judge(n, m, positions, tables, schedule);
-    if refusal != 0 {
+    let is_refused = refusal != 0;
+    if is_refused {
         return Ended::Refused { number: refusal };
     }
     let numbers = 4 * (positions * n);

@@ -53,7 +53,8 @@ fn follow(first: usize, low: usize, rest: Number) -> Number
 {
     match rest {
         Number::Value { value, at: _, next } => {
-            if value == 0 {
+            let is_needless = value == 0;
+            if is_needless {
                 Number::Refused {
                     refusal: bad(2, first),
                 }

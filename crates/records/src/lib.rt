@@ -115,12 +115,14 @@ fn read_value(file: &[u8], start: usize, place: usize, low: usize, at: usize) ->
             refusal: refusal(read),
         };
     };
-    if MOST_CODE < code {
+    let is_past = MOST_CODE < code;
+    if is_past {
         return Found::Refused {
             refusal: bad(6, fourth),
         };
     }
-    if place < low {
+    let is_behind = place < low;
+    if is_behind {
         return Found::Refused {
             refusal: bad(7, start),
         };

@@ -24,7 +24,8 @@ pub const JUDGED: usize = 27685;
 pub fn report(file: &[u8], out: &mut [u8]) -> Told
     ensures { Outcome file.now out.old (answer_told result) out.new }
 {
-    if out.len() < ROOM {
+    let is_short = out.len() < ROOM;
+    if is_short {
         return Told::Refused { number: 9 };
     }
     if file.len() <= JUDGED {

@@ -13,7 +13,8 @@ pub fn put_byte(out: &mut [u8], at: usize, byte: u8) -> usize
     requires { at < 1000000 }
     ensures { Puts out.old at (byte ∷ []) result out.new }
 {
-    if at < out.len() {
+    let is_inside = at < out.len();
+    if is_inside {
         out[at] = byte;
         return at + 1;
     }

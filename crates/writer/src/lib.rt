@@ -184,7 +184,8 @@ pub fn write_sheet(
     }
     let mut no_room = [0u8; 0];
     let length = write_all(n, m, positions, tables, schedule, &mut no_room);
-    if out.len() < length {
+    let is_short = out.len() < length;
+    if is_short {
         return Written::Refused { number: 9 };
     }
     Written::Done {

@@ -5,7 +5,7 @@ use Rattle.circuits.specs.Ways.{before}
 use Rattle.theory.proofs.Backs.{back_none}
 use Rattle.circuits.proofs.Ways.{sound_here, going_none, going_few, going_less, going_more, going_round}
 use Rattle.circuits.proofs.go_round.Goals as goal
-use Rattle.circuits.proofs.go_round.Goals.{then-x-least, else-x-least}
+use Rattle.circuits.proofs.go_round.Goals.{then-is_less, else-is_less}
 
 pub offset_bounds-row-u : goal.offset_bounds-row-u
 offset_bounds-row-u c = let a = c.args in omega (arith, c.requires.0.rowed.few, sound_here a.row.now a.n a.positions a.u c.requires.0 0 a.u (back_none (before a.row.now) a.u))
@@ -41,9 +41,9 @@ loop-x-smaller c =
 pub loop-x-preserved : goal.loop-x-preserved
 loop-x-preserved c = let a = c.args in
     let b = before a.row.now in
-    elim c.if-x-least.branch [
-      | then-x-least w ↦ rw w.least-is (going_less b a.u c.loop-x.least c.loop-x.count c.loop-x.x c.loop-x.invariant c.loop-x-test.true c.departure-x-in-loop-x.result c.departure-x-in-loop-x.ensures (omega (arith, w.if-x-least.true)))
-      | else-x-least w ↦ rw w.least-is (going_more b a.u c.loop-x.least c.loop-x.count c.loop-x.x c.loop-x.invariant c.loop-x-test.true c.departure-x-in-loop-x.result c.departure-x-in-loop-x.ensures (omega (arith, w.if-x-least.false)))
+    elim c.if-is_less.branch [
+      | then-is_less w ↦ rw w.least-is (going_less b a.u c.loop-x.least c.loop-x.count c.loop-x.x c.loop-x.invariant c.loop-x-test.true c.departure-x-in-loop-x.result c.departure-x-in-loop-x.ensures (omega (arith, w.if-is_less.true)))
+      | else-is_less w ↦ rw w.least-is (going_more b a.u c.loop-x.least c.loop-x.count c.loop-x.x c.loop-x.invariant c.loop-x-test.true c.departure-x-in-loop-x.result c.departure-x-in-loop-x.ensures (omega (arith, w.if-is_less.false)))
     ]
 
 pub returns : goal.returns

@@ -12,13 +12,13 @@ overflow_mul-result c = omega (arith, rw c.in-Value.is at c.requires.1)
 pub overflow_add-result : goal.overflow_add-result
 overflow_add-result c = omega (arith, rw c.in-Value.is at c.requires.1)
 
-pub returns-then-value-eq0 : goal.returns-then-value-eq0
-returns-then-value-eq0 c = let a = c.args in
-    rw c.in-Value.is (ap Refused c.bad.ensures ∙ followed_zero a.first a.low c.in-Value.value c.in-Value.at c.in-Value.next c.if-value-eq0.true)
+pub returns-then-is_needless : goal.returns-then-is_needless
+returns-then-is_needless c = let a = c.args in
+    rw c.in-Value.is (ap Refused c.bad.ensures ∙ followed_zero a.first a.low c.in-Value.value c.in-Value.at c.in-Value.next c.if-is_needless.true)
 
-pub returns-else-value-eq0 : goal.returns-else-value-eq0
-returns-else-value-eq0 c = let a = c.args in
-    rw c.in-Value.is (followed_more a.first a.low c.in-Value.value c.in-Value.at c.in-Value.next c.if-value-eq0.false)
+pub returns-else-is_needless : goal.returns-else-is_needless
+returns-else-is_needless c = let a = c.args in
+    rw c.in-Value.is (followed_more a.first a.low c.in-Value.value c.in-Value.at c.in-Value.next c.if-is_needless.false)
 
 pub returns-in-Refused : goal.returns-in-Refused
 unfolding followed

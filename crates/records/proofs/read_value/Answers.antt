@@ -36,25 +36,25 @@ unfolding value_at
 returns-in_default c = ap refused (refused_is _ _ _ c.refusal.ensures c.in_default.is)
     ∙ sym (after_refused _ _ _ (tested_refused (λ u. in_limit (decoded u)) 6 _ _ (sym c.number_at-read.ensures ∙ c.in_default.is)))
 
-pub returns-then-code-gt-MOST_CODE : goal.returns-then-code-gt-MOST_CODE
+pub returns-then-is_past : goal.returns-then-is_past
 unfolding value_at
-returns-then-code-gt-MOST_CODE c =
+returns-then-is_past c =
     let code_at : number_at c.args.file.now c.args.at ≡ Value c.in-Value.code c.in-Value.fourth c.in-Value.next = sym c.number_at-read.ensures ∙ c.in-Value.is in
-    rw c.bad.ensures (sym (after_refused _ _ _ (tested_no (λ u. in_limit (decoded u)) 6 _ _ _ _ code_at (past_limit c.in-Value.code c.if-code-gt-MOST_CODE.true))))
+    rw c.bad.ensures (sym (after_refused _ _ _ (tested_no (λ u. in_limit (decoded u)) 6 _ _ _ _ code_at (past_limit c.in-Value.code c.if-is_past.true))))
 
-pub returns-then-place-low : goal.returns-then-place-low
+pub returns-then-is_behind : goal.returns-then-is_behind
 unfolding value_at
-returns-then-place-low c =
+returns-then-is_behind c =
     let code_at : number_at c.args.file.now c.args.at ≡ Value c.in-Value.code c.in-Value.fourth c.in-Value.next = sym c.number_at-read.ensures ∙ c.in-Value.is in
-    let left : value_at c.args.file.now c.args.start c.args.low c.args.place c.args.at ≡ rising c.args.start c.args.low c.args.place (decoded c.in-Value.code) c.in-Value.next = after_value _ _ _ _ (tested_yes (λ u. in_limit (decoded u)) 6 _ _ _ code_at (within_limit c.in-Value.code c.if-code-gt-MOST_CODE.false)) in
-    rw c.bad-then-place-low.ensures (sym (left ∙ rising-no _ _ _ _ _ c.if-place-low.true))
+    let left : value_at c.args.file.now c.args.start c.args.low c.args.place c.args.at ≡ rising c.args.start c.args.low c.args.place (decoded c.in-Value.code) c.in-Value.next = after_value _ _ _ _ (tested_yes (λ u. in_limit (decoded u)) 6 _ _ _ code_at (within_limit c.in-Value.code c.if-is_past.false)) in
+    rw c.bad-then-is_behind.ensures (sym (left ∙ rising-no _ _ _ _ _ c.if-is_behind.true))
 
 pub overflow_cast-result : goal.overflow_cast-result
-overflow_cast-result c = omega (arith, c.if-code-gt-MOST_CODE.false)
+overflow_cast-result c = omega (arith, c.if-is_past.false)
 
 pub returns : goal.returns
 unfolding value_at
 returns c =
     let code_at : number_at c.args.file.now c.args.at ≡ Value c.in-Value.code c.in-Value.fourth c.in-Value.next = sym c.number_at-read.ensures ∙ c.in-Value.is in
-    let left : value_at c.args.file.now c.args.start c.args.low c.args.place c.args.at ≡ rising c.args.start c.args.low c.args.place (decoded c.in-Value.code) c.in-Value.next = after_value _ _ _ _ (tested_yes (λ u. in_limit (decoded u)) 6 _ _ _ code_at (within_limit c.in-Value.code c.if-code-gt-MOST_CODE.false)) in
-    sym (left ∙ rising-yes _ _ _ _ _ c.if-place-low.false)
+    let left : value_at c.args.file.now c.args.start c.args.low c.args.place c.args.at ≡ rising c.args.start c.args.low c.args.place (decoded c.in-Value.code) c.in-Value.next = after_value _ _ _ _ (tested_yes (λ u. in_limit (decoded u)) 6 _ _ _ code_at (within_limit c.in-Value.code c.if-is_past.false)) in
+    sym (left ∙ rising-yes _ _ _ _ _ c.if-is_behind.false)

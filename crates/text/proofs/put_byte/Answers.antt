@@ -3,8 +3,8 @@ use mathlib.Core.Path.{refl, sym}
 use lib.Seq.{set_out}
 use Rattle.text.proofs.put_byte.Goals as goal
 
-pub returns-then-at-out : goal.returns-then-at-out
-returns-then-at-out c = record { next_is = refl; out_is = refl }
+pub returns-then-is_inside : goal.returns-then-is_inside
+returns-then-is_inside c = record { next_is = refl; out_is = refl }
 
 pub returns : goal.returns
-returns c = record { next_is = refl; out_is = sym (set_out _ _ _ c.if-at-out.false) }
+returns c = record { next_is = refl; out_is = sym (set_out _ _ _ c.if-is_inside.false) }

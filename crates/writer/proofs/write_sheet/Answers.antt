@@ -16,11 +16,11 @@ write_all-length-requires c =
     let admitted : refusal S ≡ 0 = sym c.judge-judged.ensures ∙ c.if-judged-ne0.false in
     admitted
 
-pub returns-then-out-length : goal.returns-then-out-length
-returns-then-out-length c =
+pub returns-then-is_short : goal.returns-then-is_short
+returns-then-is_short c =
     let S : Sheet = let a = c.args in sheet a.n a.m a.positions a.tables.now a.schedule.now in
     let admitted : refusal S ≡ 0 = sym c.judge-judged.ensures ∙ c.if-judged-ne0.false in
-    writes_short S c.args.out.now admitted _ _ _ c.write_all-length.ensures c.if-out-length.true
+    writes_short S c.args.out.now admitted _ _ _ c.write_all-length.ensures c.if-is_short.true
 
 pub write_all-requires : goal.write_all-requires
 write_all-requires c =
@@ -32,4 +32,4 @@ pub returns : goal.returns
 returns c =
     let S : Sheet = let a = c.args in sheet a.n a.m a.positions a.tables.now a.schedule.now in
     let admitted : refusal S ≡ 0 = sym c.judge-judged.ensures ∙ c.if-judged-ne0.false in
-    writes_done S c.args.out.now admitted _ _ c.write_all.ensures (omega (arith, walked_length S c.args.out.now _ _ _ c.write_all-length.ensures, c.if-out-length.false))
+    writes_done S c.args.out.now admitted _ _ c.write_all.ensures (omega (arith, walked_length S c.args.out.now _ _ _ c.write_all-length.ensures, c.if-is_short.false))
