@@ -23,8 +23,8 @@ pub fn zeros() -> [u64; tables::NODES]
 }
 
 // Lays out the list, and runs rounds over it from table 0, which is all zeros, until one changes nothing, or N of them. The times are then their
-// last table, and the row has the arc that raised each node last. The list is made here, where it is walked: handed on once more, by value, it
-// would stand on the stack twice.
+// last table, and the row has the arc that raised each node last. The list stands here, and is lent to those who fill and walk it: handed on by
+// value, it would stand on the stack twice.
 pub fn run(
     tables: &[i32],
     m: usize,
