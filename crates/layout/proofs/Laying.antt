@@ -8,7 +8,7 @@ use native.Mathlib.Omega.{arith}
 use native.Mathlib.Decide.{dec_lt}
 use native.Mathlib.Numerals.{add-one}
 use lib.IntN.{ℤ, pos}
-use lib.ListN.{length, get_or, set, drop, replicate, length-set, length-append, length-replicate, get_or-append}
+use lib.ListN.{length, get_or, set, drop, length-set, length-append, get_or-append}
 use lib.Seq.{get_or-set_same, get_or-set_other, get_or-append_seam, get_or-append-add}
 use Rattle.tables.specs.Sheets.{absent}
 use Rattle.edges.specs.declared.Record.{Record}
