@@ -60,7 +60,8 @@ fn are_in_reach(count: usize, times: &[i64]) -> bool
 fn are_enough(count: usize, times: &[i64]) -> bool
     ensures { result ≡ (leb count (length times.now) && all in_reach (take count times.now)) }
 {
-    if times.len() < count {
+    let too_few = times.len() < count;
+    if too_few {
         return false;
     }
     are_in_reach(count, times)

@@ -50,7 +50,8 @@ fn four_at(arcs: &[u8], k: usize) -> Four
 fn is_named(line: edges::Line, arc: Four) -> bool
     ensures { result ≡ named line.n line.positions arc }
 {
-    if 4 <= arc.kind {
+    let is_unknown = 4 <= arc.kind;
+    if is_unknown {
         return false;
     }
     if !tables::is_within(line.positions, arc.position as usize) {
@@ -125,7 +126,8 @@ fn is_good(line: edges::Line, tables: &[i32], schedule: &[u8], arcs: &[u8], k: u
     if !is_window(line, tables, schedule, arc) {
         return false;
     }
-    if k == 0 {
+    let is_first = k == 0;
+    if is_first {
         return true;
     }
     let before = edge_in(line, tables, schedule, arcs, k - 1);
@@ -218,7 +220,8 @@ fn starts_smallest(
     let mut k: usize = 0;
     while k < count {
         let arc = edge_in(line, tables, schedule, arcs, k);
-        if arc.departure < first.departure {
+        let is_smaller = arc.departure < first.departure;
+        if is_smaller {
             return false;
         }
         k += 1;
@@ -251,7 +254,8 @@ fn weigh(line: edges::Line, tables: &[i32], schedule: &[u8], arcs: &[u8], count:
 {
     let smallest = starts_smallest(line, tables, schedule, arcs, count);
     let above = is_above(line, tables, schedule, arcs, count);
-    if !smallest {
+    let is_misplaced = !smallest;
+    if is_misplaced {
         return ArcsHeld::NotSmallest;
     }
     if !above {
@@ -267,7 +271,8 @@ fn test(line: edges::Line, tables: &[i32], schedule: &[u8], arcs: &[u8], count: 
 {
     let closed = is_closed(line, tables, schedule, arcs, count);
     let once = leaves_once(line, tables, schedule, arcs, count);
-    if !closed {
+    let is_open = !closed;
+    if is_open {
         return ArcsHeld::NotClosed;
     }
     if !once {

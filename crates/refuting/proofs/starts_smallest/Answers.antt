@@ -19,8 +19,8 @@ pub edge_in-arc-requires : goal.edge_in-arc-requires
 edge_in-arc-requires c = let r = c.requires in let below = c.loop-k-test.true in
     (r.ready, omega (arith, r.long, below), read_present _ _ _ _ _ r c.loop-k.k below)
 
-pub returns-then-arc-first : goal.returns-then-arc-first
-returns-then-arc-first c = let f = c.edge_in-first in smallest_not _ _ _ _ _ c.requires f.result c.edge_in-arc.result c.loop-k.k c.loop-k-test.true f.ensures c.edge_in-arc.ensures c.if-arc-first.true
+pub returns-then-is_smaller : goal.returns-then-is_smaller
+returns-then-is_smaller c = let f = c.edge_in-first in smallest_not _ _ _ _ _ c.requires f.result c.edge_in-arc.result c.loop-k.k c.loop-k-test.true f.ensures c.edge_in-arc.ensures (omega arith)
 
 pub overflow_add-k : goal.overflow_add-k
 overflow_add-k c = omega (arith, c.loop-k-test.true)
@@ -33,7 +33,7 @@ loop-k-preserved c = let f = c.edge_in-first in let a = c.args in
     let s = sheet_of a.line a.tables.now a.schedule.now in (
       omega (arith, c.loop-k-test.true),
       below_more (λ j. (edge_in s a.line.p a.line.q a.arcs.now 0).departure ≤ (edge_in s a.line.p a.line.q a.arcs.now j).departure) c.loop-k.k c.loop-k.invariant.1
-          (let new = c.if-arc-first.false in omega (arith, ap (λ (x : Edge). x.departure) f.ensures, ap (λ (x : Edge). x.departure) c.edge_in-arc.ensures)),
+          (let new = c.if-is_smaller.false in omega (arith, ap (λ (x : Edge). x.departure) f.ensures, ap (λ (x : Edge). x.departure) c.edge_in-arc.ensures)),
     )
 
 pub returns : goal.returns
