@@ -1,4 +1,4 @@
-/* Does a cycle time work for a sheet? The call for C and C++, proved in crates/host and built by `rt staticlib host`.
+/* Does a cycle time work for a sheet? The call for C and C++, proved in crates/host and built by `.ci/archive host`.
  *
  * Words and numbers are those of document 01, "Exact scope and rules".
  */

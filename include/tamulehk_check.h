@@ -1,4 +1,4 @@
-/* Does another engine's answer hold for a sheet? The calls for C and C++, proved in crates/checker and built by `rt staticlib checker`.
+/* Does another engine's answer hold for a sheet? The calls for C and C++, proved in crates/checker and built by `.ci/archive checker`.
  *
  * Words and numbers are those of document 01, "Exact scope and rules", and of request E2 in document 02, which gives 11; 102 to 107 are
  * this project's own choice (docs/DECISIONS.md).

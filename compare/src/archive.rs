@@ -1,4 +1,4 @@
-//! The proved calls, through C, out of the archives that `rt staticlib` builds of the
+//! The proved calls, through C, out of the archives that `.ci/archive` builds of the
 //! crates probe, host and checker.
 //!
 //! A slice passes as two arguments, a pointer and a count of elements. Nothing checks
