@@ -4,6 +4,7 @@ use mathlib.Core.List.{List, [], ◌∷◌, ◌++◌}
 use Prim.Native.Nat.{ℕ, ◌*◌, ◌≤◌, ◌<◌}
 use native.Mathlib.Omega.{arith}
 use lib.ListN.{length, drop}
+use Rattle.std.specs.Prelude.{Ok}
 use Rattle.tables.specs.Sheets.{Sheet}
 use Rattle.tables.specs.Answers.{answer}
 use Rattle.tables.specs.Admitted.{Admitted}
@@ -45,11 +46,9 @@ module _ (s : Sheet) (ok : Admitted s) (p q : ℕ) (l : List Record) (start : Li
       let e = ran.last (full f.0) in
       let r = refuted s ok p q l start laid row (nodes s) node refl (told f.0) e.0 e.1 circuit₀ circuit count f.1 long in
       (r.0, r.2, record { refutes = r.1; circuit_is = r.3 ∙ ap (λ (k : ℕ). numbers r.0 ++ drop (4 * k) circuit₀) (sym r.2); plan_same = f.2 })
-  settles plan₀ circuit₀ long (asked.Refused k) plan circuit f = absurd f
 
 -- where no refusal fits, that is the whole outcome
 pub outcome : (s : Sheet) (p q : ℕ) (plan₀ circuit₀ : List ℕ) → ask_refusal s p q plan₀ circuit₀ ≡ 0 → (a : Asked) (plan circuit : List ℕ) → Settles s p q plan₀ circuit₀ a plan circuit
-    → Outcome s p q plan₀ circuit₀ (answer_asked a) plan circuit
+    → Outcome s p q plan₀ circuit₀ (answer_asked (Ok a)) plan circuit
 outcome s p q plan₀ circuit₀ e (asked.Accepted k) plan circuit f = ask.accepted k refl e f
 outcome s p q plan₀ circuit₀ e (asked.Refuted k) plan circuit f = ask.refuted f.0 (ap (λ (n : ℕ). answer 100 (n ∷ [])) (sym f.1)) e f.2
-outcome s p q plan₀ circuit₀ e (asked.Refused k) plan circuit f = absurd f

@@ -3,33 +3,32 @@
 // It renders document 01's "Rounds", "Circuits" and the line on Ask in "Numbers a call can answer".
 #![tactic(auto)]
 
-ghost use Rattle.std.specs.Prelude.{◌≡◌, ◌*◌, ◌≤◌, length};
-ghost use Rattle.tables.specs.Sheets.{sheet};
-ghost use Rattle.calls.specs.Ask.{ask_refusal, Outcome};
+ghost use Rattle.std.specs.Prelude.{◌≡◌, ◌*◌, ◌≤◌, true, length};
+ghost use Rattle.tables.specs.Lent.{lent};
+ghost use Rattle.calls.specs.Ask.{roomy, Outcome};
 ghost use Rattle.ask.specs.Answers.{answer_asked, LeadsBack, Finishes, Settles};
 
-// The answer: the rounds of an acceptance, the arc count of a refutation, or the number of a refusal.
-#[derive(Drop)]
+use circuits::Marks;
+use edges::lines::Line;
+use fractions::Fraction;
+use numbers::refusals::Reason;
+use rounds::Last;
+use tables::sheets::Sheet;
+use turns::jobs::Job;
+
+// The answer: the rounds of an acceptance, or the arc count of a refutation.
+#[derive(Clone, Copy, Debug, PartialEq, Eq)]
 pub enum Asked {
     Accepted { rounds: u64 },
     Refuted { arcs: u64 },
-    Refused { number: u8 },
 }
 
 // Writes what the rounds came to: their table as the plan, or the circuit that their row of marks leads to.
-fn finish(
-    n: usize,
-    positions: usize,
-    last: rounds::Last,
-    times: &[u64],
-    row: &[u16],
-    plan: &mut [u64],
-    circuit: &mut [u8],
-) -> Asked
-    requires { LeadsBack row.now n positions last.rounds last.node × (positions * n ≤ 192) × (positions * n ≤ length times.now) × (positions * n ≤ length plan.old) × (4 * (positions * n) ≤ length circuit.old) }
-    ensures { Finishes row.now n positions last.rounds last.node times.now plan.old circuit.old result plan.new circuit.new }
+fn finish(marks: &Marks, last: Last, times: &[u64], plan: &mut [u64], circuit: &mut [u8]) -> Asked
+    requires { LeadsBack marks.now.row.now marks.now.n marks.now.positions last.rounds last.node × (marks.now.positions * marks.now.n ≤ 192) × (marks.now.positions * marks.now.n ≤ length times.now) × (marks.now.positions * marks.now.n ≤ length plan.old) × (4 * (marks.now.positions * marks.now.n) ≤ length circuit.old) }
+    ensures { Finishes marks.now.row.now marks.now.n marks.now.positions last.rounds last.node times.now plan.old circuit.old result plan.new circuit.new }
 {
-    let nodes = positions * n;
+    let nodes = marks.positions * marks.n;
     let rounds = last.rounds;
     let node = last.node;
     let stood_still = rounds < nodes;
@@ -39,64 +38,54 @@ fn finish(
             rounds: rounds as u64,
         };
     }
-    let arcs = circuits::refute(n, positions, row, node, circuit);
+    let arcs = circuits::refute(marks, node, circuit);
     Asked::Refuted { arcs: arcs as u64 }
 }
 
 // Decides: runs the rounds, and writes the plan or the circuit.
-fn decide(
-    n: usize,
-    m: usize,
-    positions: usize,
-    tables: &[i32],
-    schedule: &[u8],
-    p: u64,
-    q: u64,
-    plan: &mut [u64],
-    circuit: &mut [u8],
-) -> Asked
-    requires { ask_refusal (sheet n m positions tables.now schedule.now) p q plan.old circuit.old ≡ 0 }
-    ensures { Settles (sheet n m positions tables.now schedule.now) p q plan.old circuit.old result plan.new circuit.new }
+fn decide(line: &Line, plan: &mut [u64], circuit: &mut [u8]) -> Asked
+    requires { roomy (lent line.now.sheet) plan.old circuit.old ≡ true }
+    ensures { Settles (lent line.now.sheet) line.now.time.top line.now.time.bottom plan.old circuit.old result plan.new circuit.new }
 {
-    let mut times = rounds::zeros();
-    let mut row = [0u16; tables::NODES];
-    let start = layout::starts(tables, n, m);
-    let job = turns::Job {
-        n: n,
-        positions: positions,
-        p: p,
-        q: q,
-        start: start,
+    let sheet = line.sheet;
+    let start = layout::starts(&sheet);
+    let job = Job {
+        sheet,
+        time: line.time,
+        start,
     };
-    let last = rounds::run(tables, m, job, schedule, &mut times, &mut row);
-    finish(n, positions, last, &times, &row, plan, circuit)
+    let mut times = [0; tables::NODES];
+    let mut row = [0; tables::NODES];
+    let last = rounds::run(&job, &mut times, &mut row);
+    let marks = Marks {
+        n: sheet.n,
+        positions: sheet.positions,
+        row: &row,
+    };
+    finish(&marks, last, &times, plan, circuit)
 }
 
 // Does the cycle time p/q work? Accepted with the rounds, and the earliest plan in the first N places of `plan`; refuted with the arc
-// count, and a circuit with total above zero in the first places of `circuit`, four numbers an arc; or refused, by 4, 5, 6, 10 or 9.
+// count, and a circuit with total above zero in the first places of `circuit`, four numbers an arc; or refused, for 4, 5, 6, 10 or 9.
 pub fn ask(
-    n: usize,
-    m: usize,
-    positions: usize,
-    tables: &[i32],
-    schedule: &[u8],
-    p: u64,
-    q: u64,
+    sheet: &Sheet,
+    time: Fraction,
     plan: &mut [u64],
     circuit: &mut [u8],
-) -> Asked
-    ensures { Outcome (sheet n m positions tables.now schedule.now) p q plan.old circuit.old (answer_asked result) plan.new circuit.new }
+) -> Result<Asked, Reason>
+    ensures { Outcome (lent sheet.now) time.top time.bottom plan.old circuit.old (answer_asked result) plan.new circuit.new }
 {
-    let refusal = tables::judge(n, m, positions, tables, schedule);
-    if refusal != 0 {
-        return Asked::Refused { number: refusal };
+    let admitted = sheet.admit()?;
+    if !tables::is_timed(time.top, time.bottom) {
+        return Err(Reason::CycleTime);
     }
-    if !tables::is_timed(p, q) {
-        return Asked::Refused { number: 10 };
-    }
-    let nodes = positions * n;
+    let nodes = sheet.positions * sheet.n;
     if !tables::is_roomy(nodes, plan.len(), 4 * nodes, circuit.len()) {
-        return Asked::Refused { number: 9 };
+        return Err(Reason::Room);
     }
-    decide(n, m, positions, tables, schedule, p, q, plan, circuit)
+    let line = Line {
+        sheet: admitted.sheet,
+        time,
+    };
+    Ok(decide(&line, plan, circuit))
 }

@@ -26,12 +26,12 @@ use Rattle.windows.proofs.Limits.{number_small, nodes_few}
 use Rattle.windows.proofs.Steps.{kind_of, kind_number, valid_in}
 use Rattle.edges.specs.declared.Edge.{Edge}
 use Rattle.edges.specs.declared.Record.{Record}
-use Rattle.edges.specs.Edges.{by_kind}
+use Rattle.edges.specs.Edges.{by_kind, site_of}
 use Rattle.edges.proofs.Places.{as_record}
 use Rattle.edges.proofs.Edges.{weighed}
 use Rattle.layout.proofs.Laying.{Modes}
-use Rattle.turns.specs.declared.Site.{Site}
-use Rattle.turns.specs.Rounds.{Named, named, site_of, walked, table_of, MarkTold, Rose}
+use Rattle.edges.specs.declared.Site.{Site}
+use Rattle.turns.specs.Rounds.{Named, named, walked, table_of, MarkTold, Rose}
 use Rattle.turns.proofs.Sheets.{Source, source, table_is}
 use Rattle.circuits.specs.Ways.{before, places_of, Led}
 

@@ -1,13 +1,11 @@
 -- The way back along the row of marks: it meets a node again before the nodes give out, and from there it goes round, past the smallest node.
 use mathlib.Core.Path.{◌≡◌, refl, sym, ap, subst, ◌∙◌}
 use mathlib.Core.Logic.{◌≢◌}
-use mathlib.Core.Bool.{cond}
+use mathlib.Core.Bool.{Bool, true, false, cond}
 use mathlib.Core.List.{List, [], ◌∷◌}
 use Prim.Native.Nat.{ℕ, zero, suc, ◌+◌, ◌-◌, ◌*◌, ◌≤◌, ◌<◌}
 use native.Mathlib.Omega.{arith}
 use native.Mathlib.Decide.{dec_lt}
-use borrow.Author.Tests.{ne_eqb}
-use lib.Dec.{eqb}
 use lib.ListN.{length, get_or, set}
 use lib.Seq.{sets, get_or-set_same, get_or-set_other}
 use Rattle.theory.specs.Backs.{back, Returns}
@@ -16,39 +14,46 @@ use Rattle.circuits.specs.Ways.{before, Led, Sound, Unseen, Met, Rounded, writte
 
 -- ---- a node is met again
 
--- how many of a list are not 1
-abbrev pub others : List ℕ → ℕ
+-- how many are not seen
+abbrev pub others : List Bool → ℕ
 others [] = 0
-others (x ∷ xs) = cond (eqb x 1) 0 1 + others xs
+others (x ∷ xs) = cond x 0 1 + others xs
 
-pub others_less : (xs : List ℕ) (u : ℕ) → u < length xs → get_or xs u 0 ≢ 1 → others (set xs u 1) < others xs
+pub others_less : (xs : List Bool) (u : ℕ) → u < length xs → get_or xs u false ≡ false → others (set xs u true) < others xs
 others_less [] u h k = absurd (omega arith)
-others_less (x ∷ xs) zero h k = rw (ne_eqb x 1 k) (omega arith)
+others_less (x ∷ xs) zero h k = rw k (omega arith)
 others_less (x ∷ xs) (suc u) h k = omega (arith, others_less xs u (omega arith) k)
+
+-- 1 for a node that is seen
+abbrev colour : List Bool → ℕ → ℕ
+colour seen x = cond (get_or seen x false) 1 0
+
+unseen : (seen : List Bool) (x : ℕ) → get_or seen x false ≡ false → colour seen x ≢ 1
+unseen seen x e is = let none : colour seen x ≡ 0 = ap (λ (b : Bool). cond b 1 0) e in absurd (omega (arith, none, is))
 
 module _ (row : List ℕ) (n positions v : ℕ) where
   abbrev W : ℕ → ℕ
   W j = back (before row) v j
 
   -- the way back has come to u, and the nodes that it passed are those that are seen
-  pub record Passed (seen : List ℕ) (u : ℕ) : Type 0 where
+  pub record Passed (seen : List Bool) (u : ℕ) : Type 0 where
     pub steps : ℕ
     pub within : steps ≤ positions * n
     pub there : W steps ≡ u
-    pub seens : Coloured (λ x. get_or seen x 0) 1 (before row) v steps
+    pub seens : Coloured (colour seen) 1 (before row) v steps
 
-  pub passed_none : (seen : List ℕ) → Unseen n positions seen → Passed seen v
+  pub passed_none : (seen : List Bool) → Unseen n positions seen → Passed seen v
   unfolding back
-  passed_none seen h = record { steps = 0; within = omega arith; there = refl; seens = coloured_none (λ x. get_or seen x 0) 1 (before row) v h.none }
+  passed_none seen h = record { steps = 0; within = omega arith; there = refl; seens = coloured_none (colour seen) 1 (before row) v (λ x. unseen seen x (h.none x)) }
 
-  module _ (led : Led row n positions v) (seen : List ℕ) (u : ℕ) (t : Passed seen u) where
+  module _ (led : Led row n positions v) (seen : List Bool) (u : ℕ) (t : Passed seen u) where
     pub passed_here : u < positions * n
     passed_here = omega (arith, t.there, led.inside t.steps t.within)
 
     -- THEOREM: a node that is seen is met again
-    pub passed_met : get_or seen u 0 ≡ 1 → Met row n positions v u
+    pub passed_met : get_or seen u false ≡ true → Met row n positions v u
     passed_met e =
-        let m = coloured_meets (λ x. get_or seen x 0) 1 (before row) v t.steps t.seens (ap (λ (x : ℕ). get_or seen x 0) t.there ∙ e) in
+        let m = coloured_meets (colour seen) 1 (before row) v t.steps t.seens (ap (colour seen) t.there ∙ ap (λ (b : Bool). cond b 1 0) e) in
         let there = m.1.same ∙ t.there in
         record {
           steps = m.0;
@@ -58,24 +63,24 @@ module _ (row : List ℕ) (n positions v : ℕ) where
           returns = subst (λ (x : ℕ). Returns (before row) x (t.steps - m.0)) there (meets_returns (before row) v m.0 t.steps m.1);
         }
 
-    module _ (new : get_or seen u 0 ≢ 1) where
-      fresh : get_or seen (W t.steps) 0 ≢ 1
-      fresh = subst (λ (x : ℕ). get_or seen x 0 ≢ 1) (sym t.there) new
+    module _ (new : get_or seen u false ≡ false) where
+      fresh : colour seen (W t.steps) ≢ 1
+      fresh = subst (λ (x : ℕ). colour seen x ≢ 1) (sym t.there) (unseen seen u new)
 
       room : t.steps < positions * n
-      room = coloured_room (λ x. get_or seen x 0) 1 (before row) v t.steps t.seens fresh (positions * n) (λ j h. led.inside j (omega (arith, t.within)))
+      room = coloured_room (colour seen) 1 (before row) v t.steps t.seens fresh (positions * n) (λ j h. led.inside j (omega (arith, t.within)))
 
       -- one step further back
-      pub passed_more : u < length seen → (w : ℕ) → w ≡ before row u → Passed (set seen u 1) w
+      pub passed_more : u < length seen → (w : ℕ) → w ≡ before row u → Passed (set seen u true) w
       unfolding back
       passed_more long w e =
           record {
             steps = suc t.steps;
             within = room;
             there = ap (before row) t.there ∙ sym e;
-            seens = coloured_more (λ x. get_or seen x 0) 1 (before row) v t.steps t.seens fresh (λ x. get_or (set seen u 1) x 0)
-                (ap (λ (x : ℕ). get_or (set seen u 1) x 0) t.there ∙ get_or-set_same seen u 1 0 long)
-                (λ x h. get_or-set_other seen u x 1 0 (λ (y : x ≡ u). h (y ∙ sym t.there)));
+            seens = coloured_more (colour seen) 1 (before row) v t.steps t.seens fresh (colour (set seen u true))
+                (ap (colour (set seen u true)) t.there ∙ ap (λ (b : Bool). cond b 1 0) (get_or-set_same seen u true false long))
+                (λ x h. ap (λ (b : Bool). cond b 1 0) (get_or-set_other seen u x true false (λ (y : x ≡ u). h (y ∙ sym t.there))));
           }
 
 -- ---- a way that returns

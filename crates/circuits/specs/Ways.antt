@@ -1,6 +1,6 @@
 -- The way back along the row of marks, and the circuit written from it. These definitions face the code: they speak of lists of numbers,
 -- marks and places, and not of times. proofs/Circuits ties them to the circuits of a sheet.
-use Rattle.std.specs.Prelude.{◌≡◌, ◌≢◌, List, [], ◌∷◌, ◌++◌, ℕ, zero, suc, ◌+◌, ◌*◌, ◌/◌, ◌%◌, ◌≤◌, ◌<◌, length, get_or}
+use Rattle.std.specs.Prelude.{◌≡◌, Bool, false, List, [], ◌∷◌, ◌++◌, ℕ, zero, suc, ◌+◌, ◌*◌, ◌/◌, ◌%◌, ◌≤◌, ◌<◌, length, get_or}
 use Rattle.std.proofs.lemmas.List.Edits.{sets}
 use Rattle.theory.specs.Backs.{back, Returns}
 use Rattle.circuits.specs.declared.Places.{Places}
@@ -26,9 +26,9 @@ pub record Sound (row : List ℕ) (n positions u : ℕ) : Type 0 where
   pub inside : (j : ℕ) → back (before row) u j < positions * n
 
 -- no node has been seen
-pub record Unseen (n positions : ℕ) (seen : List ℕ) : Type 0 where
+pub record Unseen (n positions : ℕ) (seen : List Bool) : Type 0 where
   pub room : positions * n ≤ length seen
-  pub none : (x : ℕ) → get_or seen x 0 ≢ 1
+  pub none : (x : ℕ) → get_or seen x false ≡ false
 
 -- u is on the way back from v, which returns to it: all within N steps
 pub record Met (row : List ℕ) (n positions v u : ℕ) : Type 0 where

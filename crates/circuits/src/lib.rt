@@ -8,60 +8,63 @@ ghost use Rattle.std.proofs.lemmas.List.Edits.{sets};
 ghost use Rattle.theory.specs.Backs.{Returns};
 ghost use Rattle.circuits.specs.Ways.{before, Led, Sound, Unseen, Met, Rounded, places_of, quad, written, Traced};
 
+// The nodes of a line, n events at each of its positions, and the row that has the mark of the arc which raised each of them last.
+#[derive(Clone, Copy)]
+pub struct Marks<'a> {
+    pub n: usize,
+    pub positions: usize,
+    pub row: &'a [u16],
+}
+
 // The node that the marked arc leaves.
 fn departure(mark: u16) -> usize
     ensures { result ≡ mark / 8 }
 {
-    (mark / turns::KINDS) as usize
+    usize::from(mark / turns::KINDS)
 }
 
-// Goes back from the node v by the arc that each node's mark names, and gives the first node that is met again.
-fn meet(n: usize, positions: usize, row: &[u16], v: usize, seen: &mut [u8]) -> usize
-    requires { Led row.now n positions v × Unseen n positions seen.old }
-    ensures { Met row.now n positions v result }
+// Goes back from the node v by the arc that each node's mark names, and gives the first node that is met again. No `for`: nothing counts, the way
+// ends where it meets itself.
+fn meet(marks: &Marks, v: usize, seen: &mut [bool]) -> usize
+    requires { Led marks.now.row.now marks.now.n marks.now.positions v × Unseen marks.now.n marks.now.positions seen.old }
+    ensures { Met marks.now.row.now marks.now.n marks.now.positions v result }
 {
     let mut u = v;
-    while seen[u] != 1 {
-        seen[u] = 1;
-        let mark = row[u];
-        u = departure(mark);
+    while !seen[u] {
+        seen[u] = true;
+        u = departure(marks.row[u]);
     }
     u
 }
 
 // A circuit: its smallest node, and the count of its arcs.
-#[derive(Drop)]
+#[derive(Clone, Copy)]
 struct Ring {
     least: usize,
     count: usize,
 }
 
-// Goes round from the node u until it is back.
-fn go_round(n: usize, positions: usize, row: &[u16], u: usize) -> Ring
-    requires { Sound row.now n positions u × ((k : ℕ) × (k ≤ positions * n) × Returns (before row.now) u k) }
-    ensures { Rounded (before row.now) u result.least result.count }
+// Goes round from the node u until it is back. No `for`: how many steps that takes is what is sought.
+fn go_round(marks: &Marks, u: usize) -> Ring
+    requires { Sound marks.now.row.now marks.now.n marks.now.positions u × ((k : ℕ) × (k ≤ marks.now.positions * marks.now.n) × Returns (before marks.now.row.now) u k) }
+    ensures { Rounded (before marks.now.row.now) u result.least result.count }
 {
     let mut least = u;
     let mut count: usize = 1;
-    let first = row[u];
-    let mut x = departure(first);
+    let mut x = departure(marks.row[u]);
     while x != u {
         let is_less = x < least;
         if is_less {
             least = x;
         }
         count += 1;
-        let mark = row[x];
-        x = departure(mark);
+        x = departure(marks.row[x]);
     }
-    Ring {
-        least: least,
-        count: count,
-    }
+    Ring { least, count }
 }
 
 // The nodes that tell an arc's window: where its position, its "to" and its "from" stand.
-#[derive(Drop)]
+#[derive(Clone, Copy)]
 struct Places {
     here: usize,
     to: usize,
@@ -69,7 +72,7 @@ struct Places {
 }
 
 // Those of an arc of a kind from the node u to the node v. A lower limit's arc runs from "from" to "to", an upper limit's back; kind 2 arrives
-// at the position after its own. No mark has a kind past 3.
+// at the position after its own. The decision is on the kind's number, with a range for those that are no kind: document 01 names this form.
 fn places_of(kind: u16, u: usize, v: usize) -> Places
     ensures { result ≡ places_of kind u v }
 {
@@ -120,29 +123,26 @@ fn write_arc(circuit: &mut [u8], at: usize, n: usize, v: usize, mark: u16)
 }
 
 // Writes the arcs of `count` steps back from the node s: the way back meets the last of them first.
-fn write(n: usize, positions: usize, row: &[u16], s: usize, count: usize, circuit: &mut [u8])
-    requires { Sound row.now n positions s × (count ≤ 192) × (4 * count ≤ length circuit.old) }
-    ensures { circuit.new ≡ sets circuit.old 0 (written row.now n s count) }
+fn write(marks: &Marks, s: usize, count: usize, circuit: &mut [u8])
+    requires { Sound marks.now.row.now marks.now.n marks.now.positions s × (count ≤ 192) × (4 * count ≤ length circuit.old) }
+    ensures { circuit.new ≡ sets circuit.old 0 (written marks.now.row.now marks.now.n s count) }
 {
     let mut x = s;
-    let mut j: usize = 0;
-    while j < count {
-        j += 1;
-        let mark = row[x];
-        write_arc(circuit, 4 * (count - j), n, x, mark);
+    for k in (0..count).rev() {
+        let mark = marks.row[x];
+        write_arc(circuit, 4 * k, marks.n, x, mark);
         x = departure(mark);
     }
 }
 
 // Writes the circuit that the way back from the node v comes to, and gives the count of its arcs. Its first arc leaves the smallest node.
-pub fn refute(n: usize, positions: usize, row: &[u16], v: usize, circuit: &mut [u8]) -> usize
-    requires { Led row.now n positions v × (4 * (positions * n) ≤ length circuit.old) }
-    ensures { Traced row.now n positions v circuit.old circuit.new result }
+pub fn refute(marks: &Marks, v: usize, circuit: &mut [u8]) -> usize
+    requires { Led marks.now.row.now marks.now.n marks.now.positions v × (4 * (marks.now.positions * marks.now.n) ≤ length circuit.old) }
+    ensures { Traced marks.now.row.now marks.now.n marks.now.positions v circuit.old circuit.new result }
 {
-    let mut seen = [0u8; tables::NODES];
-    let u = meet(n, positions, row, v, &mut seen);
-    let ring = go_round(n, positions, row, u);
-    let count = ring.count;
-    write(n, positions, row, ring.least, count, circuit);
-    count
+    let mut seen = [false; tables::NODES];
+    let u = meet(marks, v, &mut seen);
+    let ring = go_round(marks, u);
+    write(marks, ring.least, ring.count, circuit);
+    ring.count
 }

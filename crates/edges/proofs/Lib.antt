@@ -1,3 +1,4 @@
 pub mod Places
 pub mod Naming
 pub mod Edges
+pub mod Sites

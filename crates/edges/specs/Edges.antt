@@ -1,11 +1,10 @@
 -- The arc of a record at a position, in the code's own numbers (document 01, "Arcs"). These definitions face the code;
 -- proofs/Edges ties them to the arcs of a sheet.
-use Rattle.std.specs.Prelude.{cond, List, ℕ, zero, suc, ◌+◌, ◌-◌, ◌*◌, ◌/◌, ◌%◌, eqb, ℤ}
-use Rattle.tables.specs.Sheets.{Sheet, sheet}
+use Rattle.std.specs.Prelude.{cond, ℕ, zero, suc, ◌+◌, ◌-◌, ◌*◌, ◌/◌, ◌%◌, eqb, ℤ}
 use Rattle.windows.specs.Arcs.{up, down}
 use Rattle.edges.specs.declared.Edge.{Edge}
-use Rattle.edges.specs.declared.Line.{Line}
 use Rattle.edges.specs.declared.Record.{Record}
+use Rattle.edges.specs.declared.Site.{Site}
 
 -- the record of the place k of a mode's part of the tables, where the limit w stands
 abbrev pub from_place : ℕ → ℕ → ℤ → Record
@@ -32,6 +31,8 @@ edge_of a q here next cross = by_kind a.kind a q here next cross
 unfoldable pub edge_at : ℕ → ℕ → ℕ → ℕ → ℕ → Record → Edge
 edge_at n positions p q g a = cond (eqb (g + 1) positions) (edge_of a q (g * n) 0 p) (edge_of a q (g * n) ((g + 1) * n) 0)
 
--- the sheet of a line
-abbrev pub sheet_of : Line → List ℤ → List ℕ → Sheet
-sheet_of line tables schedule = sheet line.n line.m line.positions tables schedule
+-- The position g + 1 of V: where its events and those of the next position stand, what crossing costs, and how many steps a unit of time
+-- has.
+unfoldable pub site_of : ℕ → ℕ → ℕ → ℕ → ℕ → Site
+site_of g n positions p q =
+    cond (eqb (g + 1) positions) (record { here = g * n; next = 0; cross = p; q = q }) (record { here = g * n; next = (g + 1) * n; cross = 0; q = q })

@@ -3,16 +3,19 @@
 // It renders document 01's "Arcs".
 #![tactic(auto)]
 
-ghost use Rattle.std.specs.Prelude.{◌≡◌, ◌-◌, ◌*◌, ◌≤◌, ◌<◌, length, get_or};
-ghost use Rattle.tables.specs.Sheets.{sheet, place};
-ghost use Rattle.windows.specs.Arcs.{up, down};
-ghost use Rattle.edges.specs.Edges.{from_place, edge, edge_of, edge_at};
-ghost use Rattle.edges.specs.Naming.{limit_of, NamesPlace};
+pub mod lines;
 
-use numbers::wide;
+ghost use Rattle.std.specs.Prelude.{◌≡◌, ◌+◌, ◌-◌, ◌*◌, ◌≤◌, ◌<◌, length, get_or};
+ghost use Rattle.tables.specs.Sheets.{place};
+ghost use Rattle.tables.specs.Lent.{lent};
+ghost use Rattle.windows.specs.Arcs.{up, down};
+ghost use Rattle.edges.specs.Edges.{from_place, edge, edge_of, edge_at, site_of};
+ghost use Rattle.edges.specs.Naming.{four_at, limit_of, NamesPlace};
+
+use tables::sheets::Sheet;
 
 // A window as a record: its kind in numbers, the events "to" and "from", and its limit.
-#[derive(Clone, Copy)]
+#[derive(Clone, Copy, Debug, PartialEq, Eq)]
 pub struct Record {
     pub kind: u8,
     pub to: u8,
@@ -51,14 +54,6 @@ pub fn from_place(n: usize, k: usize, value: i32) -> Record
     }
 }
 
-// The mode at a position of the schedule.
-fn mode_at(schedule: &[u8], position: usize) -> usize
-    requires { (1 ≤ position) × (position ≤ length schedule.now) }
-    ensures { result ≡ get_or schedule.now (position - 1) 0 }
-{
-    wide(schedule[position - 1])
-}
-
 // Where a window stands in the tables.
 fn place_of(n: usize, t: usize, kind: usize, to: usize, from: usize) -> usize
     requires { (n ≤ 12) × (t < 8) × (kind < 4) × (1 ≤ to) × (to ≤ n) × (1 ≤ from) × (from ≤ n) }
@@ -68,28 +63,47 @@ fn place_of(n: usize, t: usize, kind: usize, to: usize, from: usize) -> usize
     row * n + (from - 1)
 }
 
-// The limit of the window that four numbers name.
-pub fn limit(
-    n: usize,
-    m: usize,
-    positions: usize,
-    tables: &[i32],
-    schedule: &[u8],
-    kind: u8,
-    position: u8,
-    to: u8,
-    from: u8,
-) -> i32
-    requires { NamesPlace (sheet n m positions tables.now schedule.now) kind position to from }
-    ensures { result ≡ limit_of (sheet n m positions tables.now schedule.now) kind position to from }
+// The four numbers of an arc: kind, position, to, from.
+#[derive(Clone, Copy, Debug, PartialEq, Eq)]
+pub struct Four {
+    pub kind: u8,
+    pub position: u8,
+    pub to: u8,
+    pub from: u8,
+}
+
+// The four numbers of the arc at k of a list, from 0.
+pub fn four_at(list: &[u8], k: usize) -> Four
+    requires { 4 * k + 3 < length list.now }
+    ensures { result ≡ four_at list.now k }
 {
-    let t = mode_at(schedule, wide(position));
-    let at = place_of(n, t, wide(kind), wide(to), wide(from));
-    tables[at]
+    let at = 4 * k;
+    Four {
+        kind: list[at],
+        position: list[at + 1],
+        to: list[at + 2],
+        from: list[at + 3],
+    }
+}
+
+// The limit of the window that four numbers name.
+pub fn limit(sheet: &Sheet, arc: Four) -> i32
+    requires { NamesPlace (lent sheet.now) arc.kind arc.position arc.to arc.from }
+    ensures { result ≡ limit_of (lent sheet.now) arc.kind arc.position arc.to arc.from }
+{
+    let t = usize::from(sheet.schedule[usize::from(arc.position) - 1]);
+    let at = place_of(
+        sheet.n,
+        t,
+        usize::from(arc.kind),
+        usize::from(arc.to),
+        usize::from(arc.from),
+    );
+    sheet.tables[at]
 }
 
 // An arc in numbers: the places of its departure and its arrival in a buffer of times, and its weight as rise - fall.
-#[derive(Drop)]
+#[derive(Clone, Copy, Debug, PartialEq, Eq)]
 pub struct Edge {
     pub departure: usize,
     pub arrival: usize,
@@ -102,25 +116,58 @@ fn between(departure: usize, arrival: usize, rise: u64, fall: u64) -> Edge
     ensures { result ≡ edge departure arrival rise fall }
 {
     Edge {
-        departure: departure,
-        arrival: arrival,
-        rise: rise,
-        fall: fall,
+        departure,
+        arrival,
+        rise,
+        fall,
     }
 }
 
-// The arc of a record, in steps of 1/q. The events of its position stand from `here` on, those of the next position from `next` on, and
-// to cross from the one to the other costs `cross`.
-pub fn edge_of(w: Record, q: u64, here: usize, next: usize, cross: u64) -> Edge
-    requires { (1 ≤ w.to) × (1 ≤ w.from) × (q ≤ 1000) × (here < 4096) × (next < 4096) × (cross < 4294967296000) }
-    ensures { result ≡ edge_of w q here next cross }
+// Where a position stands: the places of its events and of the next position's, what crossing to that costs, and how many steps a unit of
+// time has.
+#[derive(Clone, Copy, Debug, PartialEq, Eq)]
+pub struct Site {
+    pub here: usize,
+    pub next: usize,
+    pub cross: u64,
+    pub q: u64,
+}
+
+// The position g + 1. After the last comes the first again, a cycle time later.
+pub fn site_at(g: usize, n: usize, positions: usize, p: u64, q: u64) -> Site
+    requires { (g < positions) × (positions ≤ 16) × (n ≤ 12) }
+    ensures { result ≡ site_of g n positions p q }
 {
-    let up = q * upper(w.w);
-    let down = q * lower(w.w);
-    let to_here = here + w.to as usize - 1;
-    let from_here = here + w.from as usize - 1;
-    let to_next = next + w.to as usize - 1;
-    let crossed = down + cross;
+    let here = g * n;
+    if g + 1 == positions {
+        return Site {
+            here,
+            next: 0,
+            cross: p,
+            q,
+        };
+    }
+    Site {
+        here,
+        next: (g + 1) * n,
+        cross: 0,
+        q,
+    }
+}
+
+// The arc of a record at a position. The decision is on the kind's number, with a range for those that are no kind: document 01 names this form.
+pub fn edge_of(w: Record, at: Site) -> Edge
+    requires { (1 ≤ w.to) × (1 ≤ w.from) × (at.q ≤ 1000) × (at.here < 4096) × (at.next < 4096) × (at.cross < 4294967296000) }
+    ensures { result ≡ edge_of w at.q at.here at.next at.cross }
+{
+    let up = at.q * upper(w.w);
+    let down = at.q * lower(w.w);
+    let to = usize::from(w.to);
+    let from = usize::from(w.from);
+    let to_here = at.here + to - 1;
+    let from_here = at.here + from - 1;
+    let to_next = at.next + to - 1;
+    let crossed = down + at.cross;
     let kind = w.kind;
     match kind {
         0 => between(from_here, to_here, up, down),
@@ -131,24 +178,10 @@ pub fn edge_of(w: Record, q: u64, here: usize, next: usize, cross: u64) -> Edge
     }
 }
 
-// A sheet's sizes and a cycle time, as one value.
-#[derive(Clone, Copy)]
-pub struct Line {
-    pub n: usize,
-    pub m: usize,
-    pub positions: usize,
-    pub p: u64,
-    pub q: u64,
-}
-
-// The arc of a record at the position g + 1.
-pub fn edge_at(line: Line, g: usize, w: Record) -> Edge
-    requires { (line.n ≤ 12) × (line.positions ≤ 16) × (g < line.positions) × (line.p ≤ 1000000000) × (line.q ≤ 1000) × (1 ≤ w.to) × (1 ≤ w.from) }
-    ensures { result ≡ edge_at line.n line.positions line.p line.q g w }
+// The arc of a record at the position g + 1 of a line.
+pub fn edge_at(n: usize, positions: usize, p: u64, q: u64, g: usize, w: Record) -> Edge
+    requires { (n ≤ 12) × (positions ≤ 16) × (g < positions) × (p ≤ 1000000000) × (q ≤ 1000) × (1 ≤ w.to) × (1 ≤ w.from) }
+    ensures { result ≡ edge_at n positions p q g w }
 {
-    let here = g * line.n;
-    if g + 1 == line.positions {
-        return edge_of(w, line.q, here, 0, line.p);
-    }
-    edge_of(w, line.q, here, (g + 1) * line.n, 0)
+    edge_of(w, site_at(g, n, positions, p, q))
 }

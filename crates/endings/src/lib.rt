@@ -3,75 +3,80 @@
 // It renders document 01's "The report", its lines before the plan.
 #![tactic(auto)]
 
-ghost use Rattle.std.specs.Prelude.{◌+◌, ◌*◌, ◌≤◌, ◌<◌, length};
-ghost use Rattle.text.specs.Text.{Puts};
-ghost use Rattle.ends.specs.Answers.{highest};
+ghost use Rattle.std.specs.Prelude.{◌≡◌, ◌+◌, ◌*◌, ◌/◌, ◌≤◌, ◌<◌, length};
+ghost use Rattle.text.specs.Text.{Puts, Adds};
+ghost use Rattle.ends.specs.Answers.{highest, arcs_of};
 ghost use Rattle.lines.specs.Lines.{high_spelled};
 ghost use Rattle.lines.specs.Buffers.{high_text, ends_text, found_text, none_text};
 
-use ends::High;
-use lines::{FEED, SPACE, put_circuit, put_fraction};
+use lines::{put_circuit, put_fraction};
+use search::{NoTime, Stand};
+use text::Text;
 
 // The highest cycle time, or that there is none.
-fn put_highest(out: &mut [u8], at: usize, high: High) -> usize
-    requires { at < 800000 }
-    ensures { (result ≤ at + 41) × Puts out.old at (high_spelled (highest high)) result out.new }
+fn put_highest(text: &mut Text, high: Option<Stand>)
+    requires { text.old.at < 800000 }
+    ensures short { text.new.at ≤ text.old.at + 41 }
+    ensures adds { Adds text.old (high_spelled (highest high)) text.new }
 {
     match high {
-        High::Open => text::put_word(out, at, b"open"),
-        High::UpTo { top, bottom } => put_fraction(out, at, top, bottom),
+        None => text.word(b"open"),
+        Some(at) => put_fraction(text, at.time.top, at.time.bottom),
     }
 }
 
 // The first line of a sheet with ends.
-fn put_ends(out: &mut [u8], top: u64, bottom: u64, high: High) -> usize
-    ensures { (result ≤ 100) × Puts out.old 0 (ends_text top bottom (highest high)) result out.new }
+fn put_ends(text: &mut Text, low: Stand, high: Option<Stand>)
+    requires { text.old.at < 700000 }
+    ensures short { text.new.at ≤ text.old.at + 100 }
+    ensures adds { Adds text.old (ends_text low.time.top low.time.bottom (highest high)) text.new }
 {
-    let a = text::put_word(out, 0, b"ends");
-    let b = text::put_byte(out, a, SPACE);
-    let c = put_fraction(out, b, top, bottom);
-    let d = text::put_byte(out, c, SPACE);
-    let e = put_highest(out, d, high);
-    text::put_byte(out, e, FEED)
+    text.word(b"ends");
+    text.byte(b' ');
+    put_fraction(text, low.time.top, low.time.bottom);
+    text.byte(b' ');
+    put_highest(text, high);
+    text.byte(b'\n');
 }
 
-// The circuit of the highest cycle time, only if that is not open.
-fn put_high(out: &mut [u8], at: usize, high: High, circuit: &[u8], count: usize) -> usize
-    requires { (at < 400000) × (count ≤ 192) × (4 * count ≤ length circuit.now) }
-    ensures { (result ≤ at + 16250) × Puts out.old at (high_text (highest high) circuit.now count) result out.new }
+// The circuit of the highest cycle time, only if there is one.
+fn put_high(text: &mut Text, high: Option<Stand>, circuit: &[u8])
+    requires { (text.old.at < 400000) × (4 * arcs_of high ≤ length circuit.now) × (arcs_of high ≤ 192) }
+    ensures short { text.new.at ≤ text.old.at + 16250 }
+    ensures adds { Adds text.old (high_text (highest high) circuit.now (arcs_of high)) text.new }
 {
-    match high {
-        High::Open => at,
-        High::UpTo { .. } => put_circuit(out, at, b"high", circuit, count),
+    if let Some(at) = high {
+        put_circuit(text, b"high", &circuit[..4 * at.arcs]);
     }
 }
 
 // A sheet with ends: these and the circuits that show them.
 pub fn put_found(
     out: &mut [u8],
-    top: u64,
-    bottom: u64,
-    high: High,
+    low: Stand,
+    high: Option<Stand>,
     first: &[u8],
-    arcs: usize,
     second: &[u8],
-    others: usize,
 ) -> usize
-    requires { (arcs ≤ 192) × (others ≤ 192) × (4 * arcs ≤ length first.now) × (4 * others ≤ length second.now) }
-    ensures { (result ≤ 40000) × Puts out.old 0 (found_text top bottom (highest high) first.now arcs second.now others) result out.new }
+    requires { (low.arcs ≤ 192) × (arcs_of high ≤ 192) × (4 * low.arcs ≤ length first.now) × (4 * arcs_of high ≤ length second.now) }
+    ensures { (result ≤ 40000) × Puts out.old 0 (found_text low.time.top low.time.bottom (highest high) first.now low.arcs second.now (arcs_of high)) result out.new }
 {
-    let a = put_ends(out, top, bottom, high);
-    let b = put_circuit(out, a, b"low", first, arcs);
-    put_high(out, b, high, second, others)
+    let mut text = Text { out, at: 0 };
+    put_ends(&mut text, low, high);
+    put_circuit(&mut text, b"low", &first[..4 * low.arcs]);
+    put_high(&mut text, high, second);
+    text.at
 }
 
 // A sheet without ends: the circuits that show it.
-pub fn put_none(out: &mut [u8], first: &[u8], arcs: usize, second: &[u8], others: usize) -> usize
-    requires { (arcs ≤ 192) × (others ≤ 192) × (4 * arcs ≤ length first.now) × (4 * others ≤ length second.now) }
-    ensures { Puts out.old 0 (none_text first.now arcs second.now others) result out.new }
+pub fn put_none(out: &mut [u8], none: NoTime, first: &[u8], second: &[u8]) -> usize
+    requires { (none.first ≤ 192) × (none.second ≤ 192) × (4 * none.first ≤ length first.now) × (4 * none.second ≤ length second.now) }
+    ensures { Puts out.old 0 (none_text first.now none.first second.now none.second) result out.new }
 {
-    let a = text::put_word(out, 0, b"none");
-    let b = text::put_byte(out, a, FEED);
-    let c = put_circuit(out, b, b"first", first, arcs);
-    put_circuit(out, c, b"second", second, others)
+    let mut text = Text { out, at: 0 };
+    text.word(b"none");
+    text.byte(b'\n');
+    put_circuit(&mut text, b"first", &first[..4 * none.first]);
+    put_circuit(&mut text, b"second", &second[..4 * none.second]);
+    text.at
 }

@@ -22,16 +22,11 @@ use Rattle.calls.specs.Ends.{ends_refusal, ends_values, Outcome}
 use Rattle.search.specs.Copies.{copied, RoomFor}
 use Rattle.search.specs.Climbs.{Held, held_arcs, NoneHeld}
 use Rattle.search.specs.Searches.{LowStands, Rests, Overhead, Descends, Starting, Climbs}
-use Rattle.ends.specs.Answers.{answer_found, answer_ended, highest, FindReady, LowReady, HighReady, HighFound}
-use Rattle.ends.specs.declared.High.{High}
-use Rattle.ends.specs.declared.High.TheVariants as high
-use Rattle.ends.specs.declared.Ended.TheVariants as ended
-use Rattle.ends.specs.declared.Highest.{Highest}
+use Rattle.ends.specs.Answers.{answer_found, ended, highest, arcs_of, FindReady, LowReady, HighReady, HighFound}
+use Rattle.std.specs.Prelude.{Option, None, Some, Result, Ok, Err}
+use Rattle.ends.specs.declared.Ended.TheVariants as code
 use Rattle.search.specs.declared.Stand.{Stand}
-use Rattle.search.specs.declared.Climbed.{Climbed}
-use Rattle.search.specs.declared.Climbed.TheVariants as climbed
-use Rattle.search.specs.declared.Descended.{Descended}
-use Rattle.search.specs.declared.Descended.TheVariants as descended
+use Rattle.search.specs.declared.NoTime.{NoTime}
 use Rattle.weights.proofs.Held.{count_few}
 use Rattle.search.proofs.Climbing.{copied_starts}
 use Rattle.calls.proofs.Ends.Refusals.{Granted, granted}
@@ -60,20 +55,20 @@ handed s buffer count h out after e =
 -- ---- the outcomes
 
 -- the values of the enum's case are those of the ends
-pub found_answer_lem : (top bottom : ℕ) (h : High) (c d count₁ count₂ : ℕ) → c ≡ count₁ → d ≡ count₂ → answer_found top bottom h count₁ count₂ ≡ answer 0 (ends_values top bottom (highest h) ++ c ∷ d ∷ [])
-found_answer_lem top bottom high.Open c d count₁ count₂ e f = ap₂ (λ (i j : ℕ). answer 0 (top ∷ bottom ∷ i ∷ j ∷ [])) (sym e) (sym f)
-found_answer_lem top bottom (high.UpTo x y) c d count₁ count₂ e f = ap₂ (λ (i j : ℕ). answer 0 (top ∷ bottom ∷ x ∷ y ∷ i ∷ j ∷ [])) (sym e) (sym f)
+pub found_answer_lem : (low : Stand) (h : Option Stand) (c d : ℕ) → c ≡ low.arcs → d ≡ arcs_of h → answer_found low h ≡ answer 0 (ends_values low.time.top low.time.bottom (highest h) ++ c ∷ d ∷ [])
+found_answer_lem low None c d e f = ap₂ (λ (i j : ℕ). answer 0 (low.time.top ∷ low.time.bottom ∷ i ∷ j ∷ [])) (sym e) (sym f)
+found_answer_lem low (Some h) c d e f = ap₂ (λ (i j : ℕ). answer 0 (low.time.top ∷ low.time.bottom ∷ h.time.top ∷ h.time.bottom ∷ i ∷ j ∷ [])) (sym e) (sym f)
 
-module _ (s : Sheet) (first₀ second₀ : List ℕ) (none : ends_refusal s first₀ second₀ ≡ 0) where
+module _ (s : Sheet) (first₀ second₀ : List ℕ) (unrefused : ends_refusal s first₀ second₀ ≡ 0) where
   ok : Admitted s
-  ok = accepted s (granted s first₀ second₀ none).admitted
+  ok = accepted s (granted s first₀ second₀ unrefused).admitted
 
-  pub lacks : (low : List ℕ) (count₁ : ℕ) (found : List ℕ) (count₂ : ℕ) → NoneHeld s low count₁ found count₂ → (first second : List ℕ) → first ≡ copied low (4 * count₁) first₀
-      → second ≡ copied found (4 * count₂) second₀ → Outcome s first₀ second₀ (answer_ended (ended.None count₁ count₂)) first second
-  lacks low count₁ found count₂ h first second e f =
-      ends.none h.held₁.steps h.held₂.steps (ap₂ (λ (c d : ℕ). answer 101 (c ∷ d ∷ [])) (sym h.held₁.counted) (sym h.held₂.counted)) none
+  pub lacks : (low found : List ℕ) (none : NoTime) → NoneHeld s low none.first found none.second → (first second : List ℕ) → first ≡ copied low (4 * none.first) first₀
+      → second ≡ copied found (4 * none.second) second₀ → Outcome s first₀ second₀ (ended (code.None none)) first second
+  lacks low found none h first second e f =
+      ends.none h.held₁.steps h.held₂.steps (ap₂ (λ (c d : ℕ). answer 101 (c ∷ d ∷ [])) (sym h.held₁.counted) (sym h.held₂.counted)) unrefused
       (record { never = never_runs s ok.size.some_positions (none_never (arcs s) _ _ h.shown); first_circuit = h.held₁.circuit; second_circuit = h.held₂.circuit; none_shown = h.shown })
-      (handed s low count₁ h.held₁ first₀ first e) (handed s found count₂ h.held₂ second₀ second f)
+      (handed s low none.first h.held₁ first₀ first e) (handed s found none.second h.held₂ second₀ second f)
 
 -- ---- high, where low is known
 
@@ -92,12 +87,12 @@ module _ (s : Sheet) (at : Stand) (room found second₀ : List ℕ) (h : HighRea
         found_room = h.found_room;
       }
 
-  pub high_open : Works (arcs s) 192000001 1 → HighFound s at second₀ (record { high = high.Open; arcs = 0 }) second₀
+  pub high_open : Works (arcs s) 192000001 1 → HighFound s at second₀ None second₀
   high_open top =
       let l = h.low in
       record {
-        range = range_runs s known.size.some_positions at.top at.bottom open_end
-            (open_range (nodes s) 1000000 s.n (arcs s) (sheet_laid s known) at.top at.bottom 192000001 l.positive l.lowest h.works l.least (omega (arith, mul-le-mul_right 1000000 (nodes_few s known))) top);
+        range = range_runs s known.size.some_positions at.time.top at.time.bottom open_end
+            (open_range (nodes s) 1000000 s.n (arcs s) (sheet_laid s known) at.time.top at.time.bottom 192000001 l.positive l.lowest h.works l.least (omega (arith, mul-le-mul_right 1000000 (nodes_few s known))) top);
         high_small = λ c d same. let z : ◌≡◌ {A = ℕ} 0 1 = cc in absurd (omega arith);
         steps = [];
         counted = refl;
@@ -110,14 +105,14 @@ module _ (s : Sheet) (at : Stand) (room found second₀ : List ℕ) (h : HighRea
     pub high_fits : RoomFor top.arcs room' second₀
     high_fits = hand_ready s room' top.arcs second₀ h.admitted r.held.held r.high_room h.second_room
 
-    pub high_up_to : (second : List ℕ) → second ≡ copied room' (4 * top.arcs) second₀ → HighFound s at second₀ (record { high = high.UpTo top.top top.bottom; arcs = top.arcs }) second
+    pub high_up_to : (second : List ℕ) → second ≡ copied room' (4 * top.arcs) second₀ → HighFound s at second₀ (Some top) second
     high_up_to second e =
         let l = h.low in
         let t = r.held.top_is in
         record {
-          range = range_runs s known.size.some_positions at.top at.bottom (up_to top.top top.bottom)
-              (closed_range (nodes s) 1000000 s.n (arcs s) (sheet_laid s known) at.top at.bottom top.top top.bottom l.positive t.positive l.lowest t.lowest h.works r.works l.least t.most);
-          high_small = λ c d same. let e : top.bottom ≡ d = cc in omega (arith, t.few);
+          range = range_runs s known.size.some_positions at.time.top at.time.bottom (up_to top.time.top top.time.bottom)
+              (closed_range (nodes s) 1000000 s.n (arcs s) (sheet_laid s known) at.time.top at.time.bottom top.time.top top.time.bottom l.positive t.positive l.lowest t.lowest h.works r.works l.least t.most);
+          high_small = λ c d same. let e : top.time.bottom ≡ d = cc in omega (arith, t.few);
           steps = r.held.held.steps;
           counted = r.held.held.counted;
           circuit = r.held.held.circuit;
@@ -143,11 +138,11 @@ module _ (s : Sheet) (at : Stand) (low found first₀ second₀ : List ℕ) (h :
         second_room = (granted s first₀ second₀ h.unrefused).second_room;
       }
 
-  pub finds : (first : List ℕ) → first ≡ copied low (4 * at.arcs) first₀ → (r : Highest) (second : List ℕ) → HighFound s at second₀ r second
-      → Outcome s first₀ second₀ (answer_ended (ended.Found at.top at.bottom r.high at.arcs r.arcs)) first second
+  pub finds : (first : List ℕ) → first ≡ copied low (4 * at.arcs) first₀ → (r : Option Stand) (second : List ℕ) → HighFound s at second₀ r second
+      → Outcome s first₀ second₀ (ended (code.Found at r)) first second
   finds first e r second f =
       let held = h.stands.held.held in
-      ends.found at.top at.bottom (highest r.high) held.steps f.steps (found_answer_lem at.top at.bottom r.high _ _ at.arcs r.arcs held.counted f.counted) h.unrefused
+      ends.found at.time.top at.time.bottom (highest r) held.steps f.steps (found_answer_lem at r _ _ held.counted f.counted) h.unrefused
       (record {
         range = f.range;
         bottom_small = h.stands.held.low.few;
@@ -160,19 +155,19 @@ module _ (s : Sheet) (at : Stand) (low found first₀ second₀ : List ℕ) (h :
       (handed s low at.arcs held first₀ first e) f.written
 
 -- what the descent came to, case by case
-pub open_works : (s : Sheet) (r : Descended) (high found : List ℕ) → Descends s r high found → r ≡ descended.Open → Works (arcs s) 192000001 1
-open_works s r high found d e = subst (λ (x : Descended). Descends s x high found) e d
+pub open_works : (s : Sheet) (r : Option Stand) (high found : List ℕ) → Descends s r high found → r ≡ None → Works (arcs s) 192000001 1
+open_works s r high found d e = subst (λ (x : Option Stand). Descends s x high found) e d
 
-pub rests_high : (s : Sheet) (r : Descended) (high found : List ℕ) → Descends s r high found → (top : Stand) → r ≡ descended.High top → Rests s top high found
-rests_high s r high found d top e = subst (λ (x : Descended). Descends s x high found) e d
+pub rests_high : (s : Sheet) (r : Option Stand) (high found : List ℕ) → Descends s r high found → (top : Stand) → r ≡ Some top → Rests s top high found
+rests_high s r high found d top e = subst (λ (x : Option Stand). Descends s x high found) e d
 
 -- what the climb came to, case by case
-pub climbs_low : (s : Sheet) (r : Climbed) (low found : List ℕ) → Climbs s r low found → (at : Stand) → r ≡ climbed.Low at → Works (arcs s) at.top at.bottom × LowStands s at low found
-climbs_low s r low found d at e = subst (λ (x : Climbed). Climbs s x low found) e d
+pub climbs_low : (s : Sheet) (r : Result Stand NoTime) (low found : List ℕ) → Climbs s r low found → (at : Stand) → r ≡ Ok at → Works (arcs s) at.time.top at.time.bottom × LowStands s at low found
+climbs_low s r low found d at e = subst (λ (x : Result Stand NoTime). Climbs s x low found) e d
 
-pub climbs_none : (s : Sheet) (r : Climbed) (low found : List ℕ) → Climbs s r low found → (count₁ count₂ : ℕ) → r ≡ climbed.None count₁ count₂
-    → NoneHeld s low count₁ found count₂ × (length low ≡ 768) × (length found ≡ 768)
-climbs_none s r low found d count₁ count₂ e = subst (λ (x : Climbed). Climbs s x low found) e d
+pub climbs_none : (s : Sheet) (r : Result Stand NoTime) (low found : List ℕ) → Climbs s r low found → (none : NoTime) → r ≡ Err none
+    → NoneHeld s low none.first found none.second × (length low ≡ 768) × (length found ≡ 768)
+climbs_none s r low found d none e = subst (λ (x : Result Stand NoTime). Climbs s x low found) e d
 
 module _ (s : Sheet) (low₀ found₀ first second : List ℕ) (f : FindReady s low₀ found₀ first second) where
   room : Granted s first second
@@ -181,7 +176,7 @@ module _ (s : Sheet) (low₀ found₀ first second : List ℕ) (f : FindReady s 
   pub find_fresh : Starting s low₀ found₀
   find_fresh = record { admitted = room.admitted; low_room = f.low_room; found_room = f.found_room }
 
-  pub find_low : (at : Stand) (low found : List ℕ) → Works (arcs s) at.top at.bottom × LowStands s at low found → LowReady s at low found first second
+  pub find_low : (at : Stand) (low found : List ℕ) → Works (arcs s) at.time.top at.time.bottom × LowStands s at low found → LowReady s at low found first second
   find_low at low found w = record { unrefused = f.unrefused; works = w.0; stands = w.1 }
 
   pub none_fit : (count₁ count₂ : ℕ) (low found : List ℕ) → NoneHeld s low count₁ found count₂ × (length low ≡ 768) × (length found ≡ 768) → RoomFor count₁ low first × RoomFor count₂ found second

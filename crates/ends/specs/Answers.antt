@@ -1,5 +1,5 @@
 -- What the call answers, as document 01 has it: "Where an answer is an enum, a definition gives this paper's number and values for each case."
-use Rattle.std.specs.Prelude.{◌≡◌, List, [], ◌∷◌, map, ℕ, ◌*◌, ◌≤◌, length}
+use Rattle.std.specs.Prelude.{◌≡◌, List, [], ◌∷◌, map, ℕ, ◌*◌, ◌≤◌, length, Option, None, Some, Result, Ok, Err}
 use Rattle.theory.specs.Arcs.{Arc, Works}
 use Rattle.theory.specs.Ends as theory
 use Rattle.theory.specs.Found.{Low}
@@ -11,28 +11,36 @@ use Rattle.windows.specs.Circuits.{Step, step_arc}
 use Rattle.calls.specs.Circuits.{onto, CircuitOrNone}
 use Rattle.calls.specs.Ends.{ends_refusal}
 use Rattle.search.specs.Searches.{LowStands}
-use Rattle.ends.specs.declared.High.{High}
-use Rattle.ends.specs.declared.High.TheVariants as high
-use Rattle.ends.specs.declared.Highest.{Highest}
+use Rattle.numbers.specs.declared.refusals.Reason.{Reason}
+use Rattle.numbers.specs.Refusals.{number_of}
 use Rattle.ends.specs.declared.Ended.{Ended}
-use Rattle.ends.specs.declared.Ended.TheVariants as ended
+use Rattle.ends.specs.declared.Ended.TheVariants as code
 use Rattle.search.specs.declared.Stand.{Stand}
 
 -- 0, "ends found", with low's top and bottom, high's where it is not open, and the two arc counts
-abbrev pub answer_found : ℕ → ℕ → High → ℕ → ℕ → Answer
-answer_found top bottom high.Open first second = answer 0 (top ∷ bottom ∷ first ∷ second ∷ [])
-answer_found top bottom (high.UpTo c d) first second = answer 0 (top ∷ bottom ∷ c ∷ d ∷ first ∷ second ∷ [])
+abbrev pub answer_found : Stand → Option Stand → Answer
+answer_found low None = answer 0 (low.time.top ∷ low.time.bottom ∷ low.arcs ∷ 0 ∷ [])
+answer_found low (Some high) = answer 0 (low.time.top ∷ low.time.bottom ∷ high.time.top ∷ high.time.bottom ∷ low.arcs ∷ high.arcs ∷ [])
 
--- 101, "none", with the two arc counts; "Numbers 1 to 10 return only the number"
-abbrev pub answer_ended : Ended → Answer
-answer_ended (ended.Found top bottom h first second) = answer_found top bottom h first second
-answer_ended (ended.None first second) = answer 101 (first ∷ second ∷ [])
-answer_ended (ended.Refused number) = answer number []
+-- 101, "none", with the two arc counts
+abbrev pub ended : Ended → Answer
+ended (code.Found low high) = answer_found low high
+ended (code.None none) = answer 101 (none.first ∷ none.second ∷ [])
 
--- the highest cycle time that the enum names
-abbrev pub highest : High → theory.High
-highest high.Open = theory.open_end
-highest (high.UpTo top bottom) = theory.up_to top bottom
+-- "Numbers 1 to 10 return only the number"
+abbrev pub answer_ended : Result Ended Reason → Answer
+answer_ended (Ok e) = ended e
+answer_ended (Err r) = answer (number_of r) []
+
+-- the highest cycle time that is named
+abbrev pub highest : Option Stand → theory.High
+highest None = theory.open_end
+highest (Some at) = theory.up_to at.time.top at.time.bottom
+
+-- the arc count of its circuit; where there is none, 0
+abbrev pub arcs_of : Option Stand → ℕ
+arcs_of None = 0
+arcs_of (Some at) = at.arcs
 
 -- ---- what the private steps promise each other
 
@@ -45,25 +53,25 @@ pub record FindReady (s : Sheet) (low found first second : List ℕ) : Type 0 wh
 -- low is known, with its circuit
 pub record LowReady (s : Sheet) (at : Stand) (low found first second : List ℕ) : Type 0 where
   pub unrefused : ends_refusal s first second ≡ 0
-  pub works : Works (arcs s) at.top at.bottom
+  pub works : Works (arcs s) at.time.top at.time.bottom
   pub stands : LowStands s at low found
 
 -- low is known, and its circuit handed over
 pub record HighReady (s : Sheet) (at : Stand) (room found second : List ℕ) : Type 0 where
   pub admitted : refusal s ≡ 0
-  pub works : Works (arcs s) at.top at.bottom
+  pub works : Works (arcs s) at.time.top at.time.bottom
   pub circuit : List Arc
-  pub low : Low (nodes s) 1000000 s.n (arcs s) at.top at.bottom circuit
+  pub low : Low (nodes s) 1000000 s.n (arcs s) at.time.top at.time.bottom circuit
   pub high_room : length room ≡ 768
   pub found_room : length found ≡ 768
   pub second_room : 4 * nodes s ≤ length second
 
 -- high is known too, with its circuit
-pub record HighFound (s : Sheet) (at : Stand) (second₀ : List ℕ) (r : Highest) (second : List ℕ) : Type 0 where
-  pub range : theory.Range (Runs s) at.top at.bottom (highest r.high)
-  pub high_small : (c d : ℕ) → highest r.high ≡ theory.up_to c d → d ≤ s.n
+pub record HighFound (s : Sheet) (at : Stand) (second₀ : List ℕ) (r : Option Stand) (second : List ℕ) : Type 0 where
+  pub range : theory.Range (Runs s) at.time.top at.time.bottom (highest r)
+  pub high_small : (c d : ℕ) → highest r ≡ theory.up_to c d → d ≤ s.n
   pub steps : List Step
-  pub counted : length steps ≡ r.arcs
+  pub counted : length steps ≡ arcs_of r
   pub circuit : CircuitOrNone s steps
   pub written : second ≡ onto steps second₀
-  pub shown : theory.HighShown (arcs s) (highest r.high) (map (step_arc s) steps)
+  pub shown : theory.HighShown (arcs s) (highest r) (map (step_arc s) steps)

@@ -7,7 +7,7 @@ ghost use Rattle.std.specs.Prelude.{◌<◌};
 ghost use Rattle.theory.specs.Ends.{Greatest, Reduces};
 
 // top/bottom.
-#[derive(Drop)]
+#[derive(Clone, Copy, Debug, PartialEq, Eq)]
 pub struct Fraction {
     pub top: u64,
     pub bottom: u64,

@@ -1,4 +1,3 @@
 pub mod Reach
-pub mod First
 pub mod Windows
 pub mod Unique

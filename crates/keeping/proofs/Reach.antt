@@ -3,9 +3,12 @@ use mathlib.Core.Path.{◌≡◌, refl, sym}
 use mathlib.Core.Bool.{true, false}
 use Prim.Native.Nat.{◌≤◌}
 use native.Mathlib.Omega.{arith}
-use borrow.Author.Tests.{ltb-true, ltb-false, lt-ltb, le-ltb}
+use borrow.Author.Tests.{leb-true, ltb-true, ltb-false, lt-ltb, le-ltb}
 use lib.IntN.{ℤ, pos, negsuc, ◌+ℤ◌}
 use lib.Signed.{lt_z, le_z}
+use mir.Syntax.{w64}
+use mir.Val.{SFits, to_z, of_z}
+use mir.ValLaws.{to_z-of_z}
 use Rattle.tables.proofs.Laws.{clash}
 use Rattle.windows.proofs.Parts.{sum_parts, same_parts}
 use Rattle.calls.specs.ProposedTimes.{in_reach}
@@ -27,3 +30,11 @@ lifts z e =
       same_parts (z +ℤ pos 382000000000) (pos (lift z)) (omega (arith, r.0, r.1, sum_parts z (pos 382000000000))),
       omega (arith, r.0, r.1),
     )
+
+-- the machine's value of a time in reach is the time
+pub fits : (z : ℤ) → in_reach z ≡ true → SFits w64 z
+fits (pos n) e = record { sfits = omega (arith, leb-true n 382000000000 e) }
+fits (negsuc n) e = record { sfits = omega (arith, ltb-true n 382000000000 e) }
+
+pub passed : (z : ℤ) → in_reach z ≡ true → to_z w64 (of_z w64 z) ≡ z
+passed z e = to_z-of_z w64 z (fits z e)

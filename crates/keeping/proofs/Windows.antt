@@ -17,6 +17,7 @@ use Rattle.theory.proofs.Sums.{rise_bound, fall_bound}
 use Rattle.tables.proofs.Laws.{clash}
 use Rattle.tables.specs.Sheets.{Sheet, absent}
 use Rattle.tables.specs.Answers.{answer}
+use Rattle.tables.specs.Lent.{lent}
 use Rattle.windows.specs.Windows.{Kind, A0, B0, A1, B1, number, Window, entry, Has, mode}
 use Rattle.windows.specs.Inequalities.{Says}
 use Rattle.windows.specs.Arcs.{node, nodes, period, arc_of, arcs}
@@ -27,16 +28,16 @@ use Rattle.windows.proofs.Listed.{arcs_in, absent_some, some_absent}
 use Rattle.windows.proofs.Laying.{node_inside, arcs_within}
 use Rattle.windows.proofs.Limits.{number_small, sheet_laid, nodes_few}
 use Rattle.edges.specs.declared.Edge.{Edge}
-use Rattle.edges.specs.declared.Line.{Line}
-use Rattle.edges.specs.Edges.{from_place, sheet_of}
+use Rattle.edges.specs.declared.lines.Line.{Line}
+use Rattle.edges.specs.Edges.{from_place}
 use Rattle.edges.proofs.Places.{as_record, kind_few, kind_at, to_at, from_at, value_at}
 use Rattle.edges.proofs.Edges.{weighed, edge_is}
 use Rattle.calls.specs.ProposedTimes as proposal
 use Rattle.calls.specs.ProposedTimes.{times_refusal, Before, proposed, Broken, Outcome}
 use Rattle.calls.proofs.ProposedTimes.Kept.{none_kept}
 use Rattle.calls.proofs.ProposedTimes.Refusals.{in_reach_lem, times_granted, TimesGranted}
-use Rattle.keeping.specs.Answers.{answer_times}
-use Rattle.keeping.specs.Breaks.{lifted_at, arc_at, keeps_at, breaks_at, breaks, Reach, Limits, Spreads, First, broken_at}
+use Rattle.keeping.specs.Answers.{answer_held}
+use Rattle.keeping.specs.Breaks.{lifted_at, arc_at, keeps_at, breaks_at, breaks, Reach, First, broken_at}
 use Rattle.keeping.specs.declared.TimesHeld.TheVariants.{Accepted}
 
 -- ---- the window of a place
@@ -83,41 +84,30 @@ record_is : (n : ℕ) (k : Kind) (i j : ℕ) (w : ℤ) → i < n → j < n → f
 record_is n k i j w to from = rw (kind_at n (number k) i j to from, to_at n (number k) i j to from, from_at n (number k) i j to from, add-one i, add-one j)
 
 -- ---- a proposal that is not refused
-module _ (line : Line) (tables : List ℤ) (schedule : List ℕ) (times : List ℤ) (none : times_refusal (sheet_of line tables schedule) line.p line.q times ≡ 0) where
+module _ (line : Line) (times : List ℤ) (none : times_refusal (lent line.sheet) line.time.top line.time.bottom times ≡ 0) where
   abbrev pub s : Sheet
-  s = sheet_of line tables schedule
+  s = lent line.sheet
 
   abbrev n : ℕ
-  n = line.n
+  n = line.sheet.n
 
-  pub granted : TimesGranted s line.p line.q times
-  granted = times_granted s line.p line.q times none
+  pub granted : TimesGranted s line.time.top line.time.bottom times
+  granted = times_granted s line.time.top line.time.bottom times none
 
-  some_positions : 0 < line.positions
+  some_positions : 0 < line.sheet.positions
   some_positions = granted.sheet_ok.size.some_positions
 
   -- the part of the mode at the position g + 1
   abbrev pub part : ℕ → List ℤ
-  part g = drop (get_or schedule g 0 * (4 * (n * n))) tables
+  part g = drop (get_or line.sheet.schedule.now g 0 * (4 * (n * n))) line.sheet.tables.now
 
   -- the test of a place
   abbrev test : ℕ → ℕ → Bool
-  test g k = breaks line tables schedule times g k
+  test g k = breaks line times g k
 
-  module _ (g : ℕ) (h : g < line.positions) where
-    mode_is : mode s (suc g) ≡ get_or schedule g 0
-    mode_is = ap (λ (x : ℕ). get_or schedule x 0) (mod-eq_of_lt h)
-
-    pub limits : Limits line g
-    limits =
-        record {
-          some_events = granted.sheet_ok.size.some_events;
-          few_events = granted.sheet_ok.size.few_events;
-          few_positions = granted.sheet_ok.size.few_positions;
-          position = h;
-          p_small = granted.p_small;
-          q_small = granted.q_small;
-        }
+  module _ (g : ℕ) (h : g < line.sheet.positions) where
+    mode_is : mode s (suc g) ≡ get_or line.sheet.schedule.now g 0
+    mode_is = ap (λ (x : ℕ). get_or line.sheet.schedule.now x 0) (mod-eq_of_lt h)
 
     module _ (k : Kind) (i j : ℕ) (to : i < n) (from : j < n) where
       abbrev w : ℤ
@@ -130,22 +120,22 @@ module _ (line : Line) (tables : List ℤ) (schedule : List ℕ) (times : List �
       step = record { kind = k; position = suc g; to = suc i; from = suc j }
 
       value_is : get_or (part g) (place_of n k i j) (pos 0) ≡ w
-      value_is = value_at s (get_or schedule g 0) (granted.sheet_ok.modes g h) granted.sheet_ok.size.long_tables k i j to from ∙ ap (λ (t : ℕ). entry s t k (suc i) (suc j)) (sym mode_is)
+      value_is = value_at s (get_or line.sheet.schedule.now g 0) (granted.sheet_ok.modes g h) granted.sheet_ok.size.long_tables k i j to from ∙ ap (λ (t : ℕ). entry s t k (suc i) (suc j)) (sym mode_is)
 
-      arc_is : arc_at line g (from_place n (place_of n k i j) w) ≡ weighed line.p line.q (arc_of s (suc g) window)
-      arc_is = ap (arc_at line g) (record_is n k i j w to from) ∙ edge_is s line.p line.q g h window (omega arith) (omega arith)
+      arc_is : arc_at line g (from_place n (place_of n k i j) w) ≡ weighed line.time.top line.time.bottom (arc_of s (suc g) window)
+      arc_is = ap (arc_at line g) (record_is n k i j w to from) ∙ edge_is s line.time.top line.time.bottom g h window (omega arith) (omega arith)
 
       has : absent w ≡ false → Has s (mode s (suc g)) window
       has e = record { to_event = (omega arith, to); from_event = (omega arith, from); stands = refl; present = absent_some w e }
 
       -- what a window's test rests on
-      reach : absent w ≡ false → Reach (weighed line.p line.q (arc_of s (suc g) window)) times
+      reach : absent w ≡ false → Reach (weighed line.time.top line.time.bottom (arc_of s (suc g) window)) times
       reach e =
           let m = arcs_in s (suc g) (omega arith) h window (has e) in
           let inside = arcs_within s some_positions (arc_of s (suc g) window) m in
           let laid = sheet_laid s granted.sheet_ok in
           let few = nodes_few s granted.sheet_ok in
-          let most : line.q * 1000000 + line.p ≤ 2000000000 = omega (arith, granted.q_small, granted.p_small) in
+          let most : line.time.bottom * 1000000 + line.time.top ≤ 2000000000 = omega (arith, granted.q_small, granted.p_small) in
           record {
             departs_few = omega (arith, inside.0);
             arrives_few = omega (arith, inside.1);
@@ -153,36 +143,36 @@ module _ (line : Line) (tables : List ℤ) (schedule : List ℕ) (times : List �
             arrives = omega (arith, inside.1, granted.long);
             leaves_in = (in_reach_lem (get_or times (arc_of s (suc g) window).departure (pos 0))).1 (granted.reach _ inside.0);
             comes_in = (in_reach_lem (get_or times (arc_of s (suc g) window).arrival (pos 0))).1 (granted.reach _ inside.1);
-            rise_small = omega (arith, rise_bound (nodes s) 1000000 n (arcs s) laid line.p line.q (arc_of s (suc g) window) m);
-            fall_small = omega (arith, fall_bound (nodes s) 1000000 n (arcs s) laid line.p line.q (arc_of s (suc g) window) m);
+            rise_small = omega (arith, rise_bound (nodes s) 1000000 n (arcs s) laid line.time.top line.time.bottom (arc_of s (suc g) window) m);
+            fall_small = omega (arith, fall_bound (nodes s) 1000000 n (arcs s) laid line.time.top line.time.bottom (arc_of s (suc g) window) m);
           }
 
       -- the times lifted say the same
-      moved : (h : ℕ) → Moved s (onwards s line.p (lifted_at times)) h (proposed s line.p line.q times) h 382000000000 0
+      moved : (h : ℕ) → Moved s (onwards s line.time.top (lifted_at times)) h (proposed s line.time.top line.time.bottom times) h 382000000000 0
       moved h i event =
           let v = node s h i in
           let r = granted.reach v (node_inside s some_positions h i event) in
           omega (
             arith,
-            sum_parts (get_or times v (pos 0)) (pos (line.p * period s h)),
-            sum_parts (pos (lifted_at times v)) (pos (line.p * period s h)),
+            sum_parts (get_or times v (pos 0)) (pos (line.time.top * period s h)),
+            sum_parts (pos (lifted_at times v)) (pos (line.time.top * period s h)),
             r.0,
             r.1,
           )
 
-      back : (h : ℕ) → Moved s (proposed s line.p line.q times) h (onwards s line.p (lifted_at times)) h 0 382000000000
+      back : (h : ℕ) → Moved s (proposed s line.time.top line.time.bottom times) h (onwards s line.time.top (lifted_at times)) h 0 382000000000
       back h i event = omega (arith, moved h i event)
 
-      says : absent w ≡ false → Holds line.p line.q (lifted_at times) (arc_of s (suc g) window) ↔ Says line.q (proposed s line.p line.q times) (suc g) k (suc i) (suc j) w
+      says : absent w ≡ false → Holds line.time.top line.time.bottom (lifted_at times) (arc_of s (suc g) window) ↔ Says line.time.bottom (proposed s line.time.top line.time.bottom times) (suc g) k (suc i) (suc j) w
       says e =
-          let x = arc_says s some_positions line.p line.q (lifted_at times) (suc g) k (suc i) (suc j) w in (
-            λ holds. moved_all s line.q (onwards s line.p (lifted_at times)) (suc g) (proposed s line.p line.q times) (suc g) 382000000000 0 (moved (suc g)) (moved (suc (suc g))) (mode s (suc g)) window (has e) (x.0 holds),
-            λ said. x.1 (moved_all s line.q (proposed s line.p line.q times) (suc g) (onwards s line.p (lifted_at times)) (suc g) 0 382000000000 (back (suc g)) (back (suc (suc g))) (mode s (suc g)) window (has e) said),
+          let x = arc_says s some_positions line.time.top line.time.bottom (lifted_at times) (suc g) k (suc i) (suc j) w in (
+            λ holds. moved_all s line.time.bottom (onwards s line.time.top (lifted_at times)) (suc g) (proposed s line.time.top line.time.bottom times) (suc g) 382000000000 0 (moved (suc g)) (moved (suc (suc g))) (mode s (suc g)) window (has e) (x.0 holds),
+            λ said. x.1 (moved_all s line.time.bottom (proposed s line.time.top line.time.bottom times) (suc g) (onwards s line.time.top (lifted_at times)) (suc g) 0 382000000000 (back (suc g)) (back (suc (suc g))) (mode s (suc g)) window (has e) said),
           )
 
       -- the test of the place, by the window's arc
       test_is : absent w ≡ false → let a = arc_of s (suc g) window in
-          test g (place_of n k i j) ≡ not (leb (lifted_at times a.departure + rise line.p line.q a) (lifted_at times a.arrival + fall line.p line.q a))
+          test g (place_of n k i j) ≡ not (leb (lifted_at times a.departure + rise line.time.top line.time.bottom a) (lifted_at times a.arrival + fall line.time.top line.time.bottom a))
       unfolding breaks_at keeps_at
       test_is e =
           ap (λ (v : ℤ). breaks_at line g (place_of n k i j) v times) value_is
@@ -193,10 +183,10 @@ module _ (line : Line) (tables : List ℤ) (schedule : List ℕ) (times : List �
       test_absent e = ap (λ (v : ℤ). breaks_at line g (place_of n k i j) v times) value_is ∙ rw e
 
       -- THEOREM: the place is broken exactly if its window is
-      pub told : (test g (place_of n k i j) ≡ true) ↔ Broken s line.p line.q times step
+      pub told : (test g (place_of n k i j) ≡ true) ↔ Broken s line.time.top line.time.bottom times step
       told = (there (absent w) refl, back_again)
         where
-          there : (b : Bool) → absent w ≡ b → test g (place_of n k i j) ≡ true → Broken s line.p line.q times step
+          there : (b : Bool) → absent w ≡ b → test g (place_of n k i j) ≡ true → Broken s line.time.top line.time.bottom times step
           there true e t = absurd (clash (sym t ∙ test_absent e))
           there false e t =
               record {
@@ -204,16 +194,16 @@ module _ (line : Line) (tables : List ℤ) (schedule : List ℕ) (times : List �
                 breaks = λ said. clash (sym t ∙ test_is e ∙ ap not (le-leb _ _ ((says e).1 said)));
               }
 
-          over : (b : Bool) → let a = arc_of s (suc g) window in leb (lifted_at times a.departure + rise line.p line.q a) (lifted_at times a.arrival + fall line.p line.q a) ≡ b
-              → absent w ≡ false → (Says line.q (proposed s line.p line.q times) (suc g) k (suc i) (suc j) w → ⊥) → b ≡ false
+          over : (b : Bool) → let a = arc_of s (suc g) window in leb (lifted_at times a.departure + rise line.time.top line.time.bottom a) (lifted_at times a.arrival + fall line.time.top line.time.bottom a) ≡ b
+              → absent w ≡ false → (Says line.time.bottom (proposed s line.time.top line.time.bottom times) (suc g) k (suc i) (suc j) w → ⊥) → b ≡ false
           over true t e breaks = absurd (breaks ((says e).0 (leb-true _ _ t)))
           over false t e breaks = refl
 
-          back_again : Broken s line.p line.q times step → test g (place_of n k i j) ≡ true
+          back_again : Broken s line.time.top line.time.bottom times step → test g (place_of n k i j) ≡ true
           back_again b = let e = some_absent w b.present.present in test_is e ∙ ap not (over _ refl e b.breaks)
 
-    -- THEOREM: the part of the mode may be searched
-    pub spreads : Spreads (part g) line g times
+    -- THEOREM: the test of a place rests on times in reach
+    pub spreads : (k : ℕ) → k < 4 * (n * n) → absent (get_or (part g) k (pos 0)) ≡ false → Reach (arc_at line g (from_place n k (get_or (part g) k (pos 0)))) times
     spreads k below e =
         let x = placed n k granted.sheet_ok.size.some_events below in
         let v = ap (λ (i : ℕ). get_or (part g) i (pos 0)) x.is ∙ value_is x.kind x.to x.from x.to_few x.from_few in
@@ -228,15 +218,15 @@ module _ (line : Line) (tables : List ℤ) (schedule : List ℕ) (times : List �
     position_is : d.position ≡ suc position
     to_is : d.to ≡ suc to
     from_is : d.from ≡ suc from
-    below : position < line.positions
+    below : position < line.sheet.positions
     to_few : to < n
     from_few : from < n
     holds : test position (place_of n d.kind to from) ≡ true
 
-  find : (d : Step) → Broken s line.p line.q times d → Found d
+  find : (d : Step) → Broken s line.time.top line.time.bottom times d → Found d
   find d b = go d.kind d.position d.to d.from b
     where
-      go : (k : Kind) (h i j : ℕ) → Broken s line.p line.q times (record { kind = k; position = h; to = i; from = j }) → Found (record { kind = k; position = h; to = i; from = j })
+      go : (k : Kind) (h i j : ℕ) → Broken s line.time.top line.time.bottom times (record { kind = k; position = h; to = i; from = j }) → Found (record { kind = k; position = h; to = i; from = j })
       go k zero i j b = absurd (omega (arith, b.present.from_first))
       go k (suc g) zero j b = absurd (omega (arith, b.present.to_event.0))
       go k (suc g) (suc i) zero b = absurd (omega (arith, b.present.from_event.0))
@@ -254,14 +244,14 @@ module _ (line : Line) (tables : List ℤ) (schedule : List ℕ) (times : List �
   smaller_to k i i' j j' from l = omega (arith, mul-le-mul_right {m = suc i} {n = i'} n l)
 
   -- THEOREM: the first place broken is the first window broken
-  pub first_broken : (g k : ℕ) → g < line.positions → ((h : ℕ) → h < g → (j : ℕ) → j < 4 * (n * n) → test h j ≡ false) → First (test g) (4 * (n * n)) k → k < 4 * (n * n)
-      → Outcome s line.p line.q times (answer_times (broken_at n g k))
-  first_broken g k below earlier first inside =
-      let x = placed n k granted.sheet_ok.size.some_events inside in
+  pub first_broken : (g k : ℕ) → g < line.sheet.positions → ((h : ℕ) → h < g → (j : ℕ) → j < 4 * (n * n) → test h j ≡ false) → First (test g) (4 * (n * n)) k
+      → Outcome s line.time.top line.time.bottom times (answer_held (broken_at n g k))
+  first_broken g k below earlier first =
+      let x = placed n k granted.sheet_ok.size.some_events first.inside in
       proposal.broken (record { kind = x.kind; position = suc g; to = suc x.to; from = suc x.from }) (named x) none
-      (record { broken = (told g below x.kind x.to x.from x.to_few x.from_few).0 (ap (test g) (sym x.is) ∙ first.stops inside); first = before x })
+      (record { broken = (told g below x.kind x.to x.from x.to_few x.from_few).0 (ap (test g) (sym x.is) ∙ first.here); first = before x })
     where
-      named : (x : Placed n k) → answer_times (broken_at n g k) ≡ answer 102 (suc g ∷ number x.kind ∷ suc x.to ∷ suc x.from ∷ [])
+      named : (x : Placed n k) → answer_held (broken_at n g k) ≡ answer 102 (suc g ∷ number x.kind ∷ suc x.to ∷ suc x.from ∷ [])
       named x =
           rw (
             x.is,
@@ -277,7 +267,7 @@ module _ (line : Line) (tables : List ℤ) (schedule : List ℕ) (times : List �
       not_before : (d : Step) (f : Found d) → f.position ≡ g → place_of n d.kind f.to f.from < k → ⊥
       not_before d f e l = clash (sym f.holds ∙ ap (λ (h : ℕ). test h (place_of n d.kind f.to f.from)) e ∙ first.before _ l)
 
-      before : (x : Placed n k) (d : Step) → Broken s line.p line.q times d → Before d (record { kind = x.kind; position = suc g; to = suc x.to; from = suc x.from }) → ⊥
+      before : (x : Placed n k) (d : Step) → Broken s line.time.top line.time.bottom times d → Before d (record { kind = x.kind; position = suc g; to = suc x.to; from = suc x.from }) → ⊥
       before x d b (inl l) =
           let f = find d b in clash (sym f.holds ∙ earlier f.position (omega (arith, f.position_is)) _ (place_few n d.kind f.to f.from f.to_few f.from_few))
       before x d b (inr (inl l)) =
@@ -296,7 +286,7 @@ module _ (line : Line) (tables : List ℤ) (schedule : List ℕ) (times : List �
           not_before d f (omega (arith, f.position_is, l.0)) (omega (arith, x.is, ap (λ (t : ℕ). t * (n * n)) l.1, ap (λ (t : ℕ). t * n) same, f.from_is, l.3))
 
   -- THEOREM: where no place is broken the times keep every window
-  pub none_broken : ((g : ℕ) → g < line.positions → (k : ℕ) → k < 4 * (n * n) → test g k ≡ false) → Outcome s line.p line.q times (answer_times Accepted)
+  pub none_broken : ((g : ℕ) → g < line.sheet.positions → (k : ℕ) → k < 4 * (n * n) → test g k ≡ false) → Outcome s line.time.top line.time.bottom times (answer_held Accepted)
   none_broken all =
       proposal.accepted refl none
-      (none_kept s line.p line.q times some_positions (λ d b. let f = find d b in clash (sym f.holds ∙ all f.position f.below _ (place_few n d.kind f.to f.from f.to_few f.from_few))))
+      (none_kept s line.time.top line.time.bottom times some_positions (λ d b. let f = find d b in clash (sym f.holds ∙ all f.position f.below _ (place_few n d.kind f.to f.from f.to_few f.from_few))))

@@ -1,19 +1,24 @@
 -- The list while it is laid out: the records of the modes before, and of the places of the next mode's part that are passed. A place that has
 -- a window puts one record more, a place that has none puts nothing. Then the modes' parts of the list.
 use mathlib.Core.Path.{◌≡◌, refl, sym, ap, ◌∙◌}
-use mathlib.Core.Bool.{Bool, true, false, cond}
+use mathlib.Core.Bool.{Bool, true, false, cond, not}
 use mathlib.Core.List.{List, [], ◌∷◌, ◌++◌, append_assoc, append-nil}
 use Prim.Native.Nat.{ℕ, zero, suc, ◌+◌, ◌-◌, ◌*◌, ◌≤◌, ◌<◌}
 use native.Mathlib.Omega.{arith}
 use native.Mathlib.Decide.{dec_lt}
+use native.Mathlib.Nat.{le_antisymm}
 use native.Mathlib.Numerals.{add-one}
 use lib.IntN.{ℤ, pos}
-use lib.ListN.{length, get_or, set, drop, length-set, length-append, get_or-append}
-use lib.Seq.{get_or-set_same, get_or-set_other, get_or-append_seam, get_or-append-add}
+use lib.ListN.{length, get_or, set, take, drop, length-set, length-append, length-drop, get_or-append}
+use lib.Seq.{get_or-set_same, get_or-set_other, get_or-append_seam, get_or-append-add, take_all}
+use Rattle.std.specs.List.{count_by}
+use Rattle.std.proofs.lemmas.List.{get_or-take, length-take-le}
+use Rattle.std.proofs.lemmas.List.Sums.{count_by_more_no, count_by_more_yes}
 use Rattle.tables.specs.Sheets.{absent}
 use Rattle.edges.specs.declared.Record.{Record}
 use Rattle.edges.specs.Edges.{from_place}
-use Rattle.layout.specs.Records.{records_in, mode_records, laid_out, blank, listed, Laid, Starts, Ahead}
+use Rattle.edges.proofs.Places.{sizes}
+use Rattle.layout.specs.Records.{records_in, mode_records, laid_out, blank, listed, Laid, Starts}
 
 -- ---- the records of a part
 
@@ -27,16 +32,6 @@ module _ (part : List ℤ) (n k : ℕ) (v : ℤ) (is : v ≡ get_or part k (pos 
   unfolding records_in
   records_one e = rw (add-one k, ← is, e)
 
--- places that have no window are passed
-pub records_ahead : (part : List ℤ) (n size a k : ℕ) → Ahead part size a k → records_in part n k ≡ records_in part n a
-records_ahead part n size a k h = go (k - a) k (omega (arith, h.from)) (λ j. h.passed j)
-  where
-    go : (d e : ℕ) → a + d ≡ e → ((j : ℕ) → a ≤ j → j < e → absent (get_or part j (pos 0)) ≡ true) → records_in part n e ≡ records_in part n a
-    go zero e same none = ap (records_in part n) (omega arith)
-    go (suc d) e same none =
-        let next : a + d + 1 ≡ e = omega arith in
-        ap (records_in part n) (sym next) ∙ records_skip part n (a + d) _ refl (none (a + d) (omega arith) (omega arith)) ∙ go d (a + d) refl (λ j p q. none j p (omega arith))
-
 cell_few : (b : Bool) (a : Record) → length (cond b [] (a ∷ [])) ≤ 1
 cell_few true a = omega arith
 cell_few false a = omega arith
@@ -48,6 +43,22 @@ records_few part n zero = omega arith
 records_few part n (suc k) =
     let v = get_or part k (pos 0) in
     omega (arith, records_few part n k, length-append (records_in part n k) (cond (absent v) [] (from_place n k v ∷ [])), cell_few (absent v) (from_place n k v))
+
+-- the records of the first places are those of a part that ends there
+pub records_take : (part : List ℤ) (n size k : ℕ) → k ≤ size → records_in (take size part) n k ≡ records_in part n k
+unfolding records_in
+records_take part n size zero h = refl
+records_take part n size (suc k) h = rw (get_or-take size part k (pos 0) (omega arith), records_take part n size k (omega arith)) refl
+
+-- there are as many of them as windows among the values
+pub records_count : (part : List ℤ) (n k : ℕ) → k ≤ length part → length (records_in part n k) ≡ count_by (λ v. not (absent v)) (take k part)
+unfolding records_in
+records_count part n zero h = refl
+records_count part n (suc k) h = go (records_count part n k (omega arith)) (absent (get_or part k (pos 0))) refl
+  where
+    go : length (records_in part n k) ≡ count_by (λ v. not (absent v)) (take k part) → (b : Bool) → absent (get_or part k (pos 0)) ≡ b → length (records_in part n k ++ cond b [] (from_place n k (get_or part k (pos 0)) ∷ [])) ≡ count_by (λ v. not (absent v)) (take (suc k) part)
+    go before true e = rw (← add-one k, append-nil) (before ∙ sym (count_by_more_no (λ v. not (absent v)) part k (pos 0) (omega arith) (ap not e)))
+    go before false e = rw (← add-one k, length-append (records_in part n k) (from_place n k (get_or part k (pos 0)) ∷ [])) (omega (arith, before, count_by_more_yes (λ v. not (absent v)) part k (pos 0) (omega arith) (ap not e)))
 
 pub mode_few : (tables : List ℤ) (n t : ℕ) → length (mode_records tables n t) ≤ 4 * (n * n)
 unfolding mode_records
@@ -74,8 +85,24 @@ module _ (tables : List ℤ) (n : ℕ) where
   abbrev size : ℕ
   size = 4 * (n * n)
 
-  abbrev part : ℕ → List ℤ
-  part t = drop (t * size) tables
+  -- the part of the tables that is mode t's, as the code cuts it out
+  abbrev pub part : ℕ → List ℤ
+  part t = take (t * size + size - t * size) (drop (t * size) tables)
+
+  length_part : (t : ℕ) → t * size + size ≤ length tables → length (part t) ≡ size
+  length_part t h = let e : t * size + size - t * size ≡ size = omega arith in
+      rw e (length-take-le size (drop (t * size) tables) (omega (arith, length-drop (t * size) tables)))
+
+  -- its records are the mode's
+  part_records : (t : ℕ) → records_in (part t) n size ≡ mode_records tables n t
+  unfolding mode_records
+  part_records t = let e : t * size + size - t * size ≡ size = omega arith in rw e (records_take (drop (t * size) tables) n size size (omega arith))
+
+  -- which are as many as the windows in it
+  pub part_count : (t : ℕ) → t * size + size ≤ length tables → count_by (λ v. not (absent v)) (part t) ≡ length (mode_records tables n t)
+  part_count t h =
+      let long : length (part t) ≡ size = length_part t h in
+      ap (count_by (λ v. not (absent v))) (sym (take_all size (part t) (omega (arith, long)))) ∙ sym (records_count (part t) n size (omega (arith, long))) ∙ ap length (part_records t)
 
   -- the records of t modes and of the first k places of the next
   abbrev so_far : ℕ → ℕ → List Record
@@ -91,11 +118,23 @@ module _ (tables : List ℤ) (n : ℕ) where
   unfolding laid_out records_in
   fill_none l room = record { room = room; laid = λ i h. absurd (omega arith); count = refl }
 
-  pub fill_few : (t k : ℕ) (l : List Record) (w : ℕ) → Filling t k l w → w ≤ t * size + k
-  fill_few t k l w f = omega (arith, f.count, length-append (laid_out tables n t) (records_in (part t) n k), laid_few tables n t, records_few (part t) n k)
+  -- the list has room for the record of a place of a mode's part
+  pub fill_room : (t m k : ℕ) (l : List Record) (w : ℕ) → n ≤ 12 → m ≤ 8 → m * size ≤ length tables → t < m → Filling t k l w → k < length (part t) → w < 4608
+  fill_room t m k l w few_events few_modes long below f inside =
+      let z = sizes t m n few_events few_modes below in
+      omega (
+        arith,
+        f.count,
+        length-append (laid_out tables n t) (records_in (part t) n k),
+        laid_few tables n t,
+        records_few (part t) n k,
+        length_part t (omega (arith, z.part)),
+        z.part,
+        z.whole,
+      )
 
-  pub fill_ahead : (t a k : ℕ) (l : List Record) (w : ℕ) → Filling t a l w → Ahead (part t) size a k → Filling t k l w
-  fill_ahead t a k l w f h = let e = records_ahead (part t) n size a k h in record { room = f.room; laid = rw e f.laid; count = rw e f.count }
+  pub fill_skip : (t k : ℕ) (l : List Record) (w : ℕ) (v : ℤ) → Filling t k l w → v ≡ get_or (part t) k (pos 0) → absent v ≡ true → Filling t (k + 1) l w
+  fill_skip t k l w v f is there = let e = records_skip (part t) n k v is there in record { room = f.room; laid = rw e f.laid; count = rw e f.count }
 
   pub fill_put : (t k : ℕ) (l : List Record) (w : ℕ) (v : ℤ) (a : Record) → Filling t k l w → v ≡ get_or (part t) k (pos 0) → absent v ≡ false → a ≡ from_place n k v → w < 4608
       → Filling t (k + 1) (set l w a) (w + 1)
@@ -108,15 +147,17 @@ module _ (tables : List ℤ) (n : ℕ) where
       }
 
   -- a mode is done where its part ends
-  pub fill_mode : (t k : ℕ) (l : List Record) (w : ℕ) → Filling t k l w → k ≡ size → Filling (t + 1) 0 l w
-  unfolding laid_out records_in mode_records
-  fill_mode t k l w f e =
-      let whole : so_far (t + 1) 0 ≡ so_far t k = append-nil (laid_out tables n (t + 1)) ∙ rw (add-one t, e) refl in
+  pub fill_mode : (t m k : ℕ) (l : List Record) (w : ℕ) → n ≤ 12 → m ≤ 8 → m * size ≤ length tables → t < m → Filling t k l w → k ≤ length (part t) → length (part t) ≤ k → Filling (t + 1) 0 l w
+  unfolding laid_out records_in
+  fill_mode t m k l w few_events few_modes long below f most least =
+      let z = sizes t m n few_events few_modes below in
+      let e : k ≡ size = omega (arith, length_part t (omega (arith, z.part)), most, least) in
+      let whole : so_far (t + 1) 0 ≡ so_far t k = append-nil (laid_out tables n (t + 1)) ∙ rw (add-one t, e) (ap (λ (rs : List Record). laid_out tables n t ++ rs) (sym (part_records t))) in
       record { room = f.room; laid = rw whole f.laid; count = rw whole f.count }
 
-  pub fill_done : (t m : ℕ) (l : List Record) (w : ℕ) → Filling t 0 l w → t ≡ m → Laid (laid_out tables n m) l
+  pub fill_done : (t m : ℕ) (l : List Record) (w : ℕ) → Filling t 0 l w → t ≤ m → m ≤ t → Laid (laid_out tables n m) l
   unfolding records_in
-  fill_done t m l w f e = rw (← e, ← append-nil (laid_out tables n t)) f.laid
+  fill_done t m l w f most least = let e : t ≡ m = le_antisymm most least in rw (← e, ← append-nil (laid_out tables n t)) f.laid
 
   -- ---- the modes' parts
 

@@ -1,6 +1,6 @@
 -- The list of records: the windows present in each mode, "laid out once as a list of records".
 -- These definitions face the code: they say what stands where in the list. proofs/Windows ties them to the windows of a sheet.
-use Rattle.std.specs.Prelude.{◌≡◌, true, false, cond, List, [], ◌∷◌, ◌++◌, ℕ, zero, suc, ◌*◌, ◌≤◌, ◌<◌, ℤ, pos, length, get_or, drop}
+use Rattle.std.specs.Prelude.{◌≡◌, cond, List, [], ◌∷◌, ◌++◌, ℕ, zero, suc, ◌*◌, ◌≤◌, ◌<◌, ℤ, pos, length, get_or, drop}
 use Rattle.tables.specs.Sheets.{absent}
 use Rattle.edges.specs.declared.Record.{Record}
 use Rattle.edges.specs.Edges.{from_place}
@@ -34,10 +34,3 @@ Laid records l = (i : ℕ) → i < length records → listed l i ≡ listed reco
 -- the records of each mode begin where those of the modes before it end; t modes are counted
 abbrev pub Starts : List ℤ → ℕ → List ℕ → ℕ → Type 0
 Starts tables n start t = (j : ℕ) → j ≤ t → get_or start j 0 ≡ length (laid_out tables n j)
-
--- k is the next of the first `size` places of a part, from a on, that has a window, or their end
-pub record Ahead (part : List ℤ) (size a k : ℕ) : Type 0 where
-  pub from : a ≤ k
-  pub within : k ≤ size
-  pub passed : (j : ℕ) → a ≤ j → j < k → absent (get_or part j (pos 0)) ≡ true
-  pub window : k < size → absent (get_or part k (pos 0)) ≡ false

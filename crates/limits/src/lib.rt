@@ -10,7 +10,7 @@ ghost use Rattle.limits.specs.Limits.{Leads};
 use fractions::Fraction;
 
 // A circuit's sums: W is ups - downs, the total of its limits, and c is forths - backs, its kind-3 crossings less its kind-2 crossings.
-#[derive(Drop)]
+#[derive(Clone, Copy, Debug, PartialEq, Eq)]
 pub struct Weight {
     pub ups: u64,
     pub downs: u64,
@@ -20,9 +20,9 @@ pub struct Weight {
 
 // What a circuit above zero says of the climb: c below 0, and its limit is the next cycle time to try; or c at least 0, and nothing
 // works, which it shows alone where W is above 0, and with the circuit before it where not.
-#[derive(Drop)]
+#[derive(Clone, Copy, Debug, PartialEq, Eq)]
 pub enum Climb {
-    On { top: u64, bottom: u64 },
+    On(Fraction),
     Alone,
     Both,
 }
@@ -34,10 +34,7 @@ pub fn next_low(weight: Weight) -> Climb
 {
     if weight.forths < weight.backs {
         let limit = fractions::reduce(weight.ups - weight.downs, weight.backs - weight.forths);
-        return Climb::On {
-            top: limit.top,
-            bottom: limit.bottom,
-        };
+        return Climb::On(limit);
     }
     if weight.downs < weight.ups {
         return Climb::Alone;

@@ -1,3 +1,3 @@
 pub mod Lengths
+pub mod Listed
 pub mod Spelled
-pub mod Turns

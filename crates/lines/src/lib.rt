@@ -1,115 +1,84 @@
-// The lines of a report, put one after the other into a buffer: each function puts its text from a place on and gives the place after it.
+// The lines of a report, put one after the other into a text.
 // This crate knows how numbers, arcs, circuits, plans and refusals are spelled; it knows no call that gives them.
 // It renders the lines of document 01's "The report", with a refusal's place (document 02, E1).
 #![tactic(auto)]
 
-ghost use Rattle.std.specs.Prelude.{◌∷◌, map, ◌+◌, ◌*◌, ◌≤◌, ◌<◌, length, take, drop};
-ghost use Rattle.text.specs.Text.{decimal, space, Puts};
-ghost use Rattle.lines.specs.Lines.{following, fraction, numbers_line, refused_line};
+ghost use Rattle.std.specs.Prelude.{◌≡◌, ◌∷◌, ◌+◌, ◌*◌, ◌/◌, ◌≤◌, ◌<◌, length};
+ghost use Rattle.text.specs.Text.{decimal, space, Puts, Adds};
+ghost use Rattle.lines.specs.Lines.{fraction, numbers_line, refused_line};
 ghost use Rattle.lines.specs.Buffers.{four_line, arc_lines, circuit_text, times_lines, plan_text};
 
-pub const SPACE: u8 = 32;
-
-pub const FEED: u8 = 10;
-
-const SLASH: u8 = 47;
+use text::Text;
 
 // A space and a number.
-fn put_spaced(out: &mut [u8], at: usize, value: u64) -> usize
-    requires { at < 800000 }
-    ensures { (result ≤ at + 21) × Puts out.old at (space ∷ decimal value) result out.new }
+fn put_spaced(text: &mut Text, value: u64)
+    requires { text.old.at < 800000 }
+    ensures short { text.new.at ≤ text.old.at + 21 }
+    ensures adds { Adds text.old (space ∷ decimal value) text.new }
 {
-    let next = text::put_byte(out, at, SPACE);
-    text::put_number(out, next, value)
+    text.byte(b' ');
+    text.number(value);
 }
 
-// An arc: kind, position, to, from.
-fn put_arc(out: &mut [u8], at: usize, kind: u8, position: u8, to: u8, from: u8) -> usize
-    requires { at < 700000 }
-    ensures { (result ≤ at + 84) × Puts out.old at (four_line kind position to from) result out.new }
+// A line of numbers.
+fn put_numbers(text: &mut Text, numbers: &[u64])
+    requires { (text.old.at < 600000) × (length numbers.now ≤ 12) }
+    ensures short { text.new.at ≤ text.old.at + length numbers.now * 21 }
+    ensures adds { Adds text.old (numbers_line numbers.now) text.new }
 {
-    let a = text::put_number(out, at, kind as u64);
-    let b = put_spaced(out, a, position as u64);
-    let c = put_spaced(out, b, to as u64);
-    let d = put_spaced(out, c, from as u64);
-    text::put_byte(out, d, FEED)
-}
-
-// The arcs of a circuit, one a line.
-fn put_arcs(out: &mut [u8], at: usize, circuit: &[u8], count: usize) -> usize
-    requires { (at < 600000) × (count ≤ 192) × (4 * count ≤ length circuit.now) }
-    ensures { (result ≤ at + 16128) × Puts out.old at (arc_lines circuit.now count) result out.new }
-{
-    let mut next = at;
-    let mut k: usize = 0;
-    while k < count {
-        let a = 4 * k;
-        let kind = circuit[a];
-        let position = circuit[a + 1];
-        let to = circuit[a + 2];
-        let from = circuit[a + 3];
-        next = put_arc(out, next, kind, position, to, from);
-        k += 1;
+    let Some((&first, rest)) = numbers.split_first() else {
+        return;
+    };
+    text.number(first);
+    for &number in rest {
+        put_spaced(text, number);
     }
-    next
+    text.byte(b'\n');
+}
+
+// The arcs of a circuit, one a line: kind, position, to, from.
+fn put_arcs(text: &mut Text, circuit: &[u8])
+    requires { (text.old.at < 550000) × (length circuit.now ≤ 768) }
+    ensures short { text.new.at ≤ text.old.at + 16128 }
+    ensures adds { Adds text.old (arc_lines circuit.now (length circuit.now / 4)) text.new }
+{
+    let (arcs, _) = circuit.as_chunks::<4>();
+    for arc in arcs {
+        put_numbers(text, &arc.map(u64::from));
+    }
 }
 
 // A circuit: a word and the arc count, then its arcs.
-pub fn put_circuit(out: &mut [u8], at: usize, word: &[u8], circuit: &[u8], count: usize) -> usize
-    requires { (at < 500000) × (length word.now ≤ 100) × (count ≤ 192) × (4 * count ≤ length circuit.now) }
-    ensures { (result ≤ at + 16250) × Puts out.old at (circuit_text word.now circuit.now count) result out.new }
+pub fn put_circuit(text: &mut Text, word: &[u8], circuit: &[u8])
+    requires { (text.old.at < 500000) × (length word.now ≤ 100) × (length circuit.now ≤ 768) }
+    ensures short { text.new.at ≤ text.old.at + 16250 }
+    ensures adds { Adds text.old (circuit_text word.now circuit.now (length circuit.now / 4)) text.new }
 {
-    let a = text::put_word(out, at, word);
-    let b = put_spaced(out, a, count as u64);
-    let c = text::put_byte(out, b, FEED);
-    put_arcs(out, c, circuit, count)
+    text.word(word);
+    put_spaced(text, circuit.len() as u64 / 4);
+    text.byte(b'\n');
+    put_arcs(text, circuit);
 }
 
 // A fraction, as 5/1.
-pub fn put_fraction(out: &mut [u8], at: usize, top: u64, bottom: u64) -> usize
-    requires { at < 800000 }
-    ensures { (result ≤ at + 41) × Puts out.old at (fraction top bottom) result out.new }
+pub fn put_fraction(text: &mut Text, top: u64, bottom: u64)
+    requires { text.old.at < 800000 }
+    ensures short { text.new.at ≤ text.old.at + 41 }
+    ensures adds { Adds text.old (fraction top bottom) text.new }
 {
-    let a = text::put_number(out, at, top);
-    let b = text::put_byte(out, a, SLASH);
-    text::put_number(out, b, bottom)
+    text.number(top);
+    text.byte(b'/');
+    text.number(bottom);
 }
 
-// n times of a plan from the place a on, each after a space, and the line's end.
-fn put_following(out: &mut [u8], at: usize, plan: &[u64], a: usize, n: usize) -> usize
-    requires { (at < 700000) × (n ≤ 12) × (a + n ≤ length plan.now) }
-    ensures { (result ≤ at + n * 21 + 1) × Puts out.old at (following (map decimal (take n (drop a plan.now)))) result out.new }
+// The times of a plan, n at each position, one line per position.
+fn put_positions(text: &mut Text, plan: &[u64], n: usize)
+    requires { (text.old.at < 500000) × (1 ≤ n) × (n ≤ 12) × (length plan.now ≤ 192) }
+    ensures { Adds text.old (times_lines plan.now n (length plan.now / n)) text.new }
 {
-    let mut next = at;
-    let mut k: usize = 0;
-    while k < n {
-        next = put_spaced(out, next, plan[a + k]);
-        k += 1;
+    for times in plan.chunks_exact(n) {
+        put_numbers(text, times);
     }
-    text::put_byte(out, next, FEED)
-}
-
-// n times of a plan from the place a on, as one line.
-fn put_times(out: &mut [u8], at: usize, plan: &[u64], a: usize, n: usize) -> usize
-    requires { (at < 600000) × (1 ≤ n) × (n ≤ 12) × (a + n ≤ length plan.now) }
-    ensures { (result ≤ at + 252) × Puts out.old at (numbers_line (take n (drop a plan.now))) result out.new }
-{
-    let next = text::put_number(out, at, plan[a]);
-    put_following(out, next, plan, a + 1, n - 1)
-}
-
-// The times of a plan, one line per position.
-fn put_positions(out: &mut [u8], at: usize, plan: &[u64], n: usize, positions: usize) -> usize
-    requires { (at < 500000) × (1 ≤ n) × (n ≤ 12) × (positions ≤ 16) × (positions * n ≤ length plan.now) }
-    ensures { Puts out.old at (times_lines plan.now n positions) result out.new }
-{
-    let mut next = at;
-    let mut g: usize = 0;
-    while g < positions {
-        next = put_times(out, next, plan, g * n, n);
-        g += 1;
-    }
-    next
 }
 
 // The plan: q and rounds, then its times.
@@ -125,19 +94,23 @@ pub fn put_plan(
     requires { (at < 400000) × (1 ≤ n) × (n ≤ 12) × (positions ≤ 16) × (positions * n ≤ length plan.now) }
     ensures { Puts out.old at (plan_text q rounds plan.now n positions) result out.new }
 {
-    let a = text::put_word(out, at, b"plan");
-    let b = put_spaced(out, a, q);
-    let c = put_spaced(out, b, rounds);
-    let d = text::put_byte(out, c, FEED);
-    put_positions(out, d, plan, n, positions)
+    let mut text = Text { out, at };
+    text.word(b"plan");
+    put_spaced(&mut text, q);
+    put_spaced(&mut text, rounds);
+    text.byte(b'\n');
+    put_positions(&mut text, &plan[..positions * n], n);
+    text.at
 }
 
 // A refusal: its number, and its place in the file.
 pub fn put_refused(out: &mut [u8], number: u8, place: usize) -> usize
     ensures { Puts out.old 0 (refused_line number place) result out.new }
 {
-    let a = text::put_word(out, 0, b"refused");
-    let b = put_spaced(out, a, number as u64);
-    let c = put_spaced(out, b, place as u64);
-    text::put_byte(out, c, FEED)
+    let mut text = Text { out, at: 0 };
+    text.word(b"refused");
+    put_spaced(&mut text, u64::from(number));
+    put_spaced(&mut text, place as u64);
+    text.byte(b'\n');
+    text.at
 }

@@ -3,3 +3,4 @@ pub mod Reading
 pub mod Signs
 pub mod Writing
 pub mod Ways
+pub mod Reasons

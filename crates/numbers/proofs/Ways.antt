@@ -13,8 +13,8 @@ use lib.Dec.{ltb, eqb}
 use lib.ListN.{length, get_or, drop, length-drop}
 use lib.Seq.{drop-cons, drop-drop, get_or-drop}
 use Rattle.numbers.specs.Groups.{bad, followed, group, number_in, number_at, grouped, groups, Bytes, Spans}
-use Rattle.numbers.specs.declared.Number.{Number}
-use Rattle.numbers.specs.declared.Number.TheVariants.{Value, Refused}
+use Rattle.numbers.specs.Groups.{Number}
+use Rattle.numbers.specs.Groups.{Value, Refused}
 use Rattle.numbers.proofs.Reading.{clash, group_one, group_more}
 use Rattle.numbers.proofs.Writing.{grouped_one, grouped_more}
 

@@ -1,7 +1,7 @@
 -- The bound that the reader of one number asks of what it has read.
 use Rattle.std.specs.Prelude.{ℕ, ◌<◌}
-use Rattle.numbers.specs.declared.Number.{Number}
-use Rattle.numbers.specs.declared.Number.TheVariants.{Value, Refused}
+use Rattle.numbers.specs.Groups.{Number}
+use Rattle.numbers.specs.Groups.{Value, Refused}
 
 -- a value is below m
 abbrev pub Below : ℕ → Number → Type 0

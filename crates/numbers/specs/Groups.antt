@@ -4,9 +4,16 @@
 -- Document 02, E1: "The reading of a single number shall answer, beside its value or refusal, the byte place, from 0, at which that number began or is
 -- missing".
 use Rattle.std.specs.Prelude.{ℕ, zero, suc, ◌+◌, ◌*◌, ◌/◌, ◌%◌, ◌<◌, ◌≡◌, cond, List, [], ◌∷◌, ◌++◌, ltb, eqb, length, get_or, drop}
-use Rattle.numbers.specs.declared.Refusal.{Refusal}
-use Rattle.numbers.specs.declared.Number.{Number}
-use Rattle.numbers.specs.declared.Number.TheVariants.{Value, Refused}
+
+-- why a file is refused, and the place of it
+pub record Refusal : Type 0 where
+  pub number : ℕ
+  pub at : ℕ
+
+-- what reading one number finds: the number, the place "at which that number began" and the place after it; or a refusal
+pub data Number : Type 0 where
+  Value : ℕ → ℕ → ℕ → Number
+  Refused : Refusal → Number
 
 -- the refusal of this number, at "the byte place, from 0"
 abbrev pub bad : ℕ → ℕ → Refusal

@@ -1,3 +1,4 @@
 pub mod Groups
+pub mod Refusals
 pub mod Signs
 pub mod Bounds

@@ -1,117 +1,89 @@
 // The numbers of the sheet file: groups of seven bits, and limits as numbers that are not negative.
-// This crate knows one number at a time, and the form in which a file is refused; it knows no sheet.
+// This crate knows one number at a time, and the form in which something is refused; it knows no sheet.
 // It renders document 01's "All numbers are in groups of seven bits" and "Value v is written as 2v", and document 02's E1: a number's place.
 #![tactic(auto)]
+
+pub mod refusals;
 
 ghost use Rattle.std.specs.Prelude.{◌≡◌, ◌≤◌, ◌<◌, length};
 ghost use Rattle.std.proofs.lemmas.List.Edits.{sets};
 ghost use Rattle.numbers.specs.Groups as spec;
-ghost use Rattle.numbers.specs.Groups.{number_at, number_in, followed, groups, grouped};
+ghost use Rattle.numbers.specs.Groups.{followed, groups, grouped};
+ghost use Rattle.numbers.specs.Refusals.{read};
 ghost use Rattle.numbers.specs.Signs.{encoded, decoded, signed};
 ghost use Rattle.numbers.specs.Bounds.{Below};
 
-// Why a file is refused, and the byte place of it, from 0.
-#[derive(Drop)]
-pub struct Refusal {
-    pub number: u8,
-    pub at: usize,
-}
+use refusals::{Reason, Refusal};
 
-// What reading one number finds, with the place at which it began or is missing: the number and the place after it, or a refusal (1 or 2).
-#[derive(Drop)]
-pub enum Number {
-    Value {
-        value: usize,
-        at: usize,
-        next: usize,
-    },
-    Refused {
-        refusal: Refusal,
-    },
+// A number of the file: its value, the place at which it began and the place after it.
+#[derive(Clone, Copy, Debug, PartialEq, Eq)]
+pub struct Number {
+    pub value: usize,
+    pub at: usize,
+    pub next: usize,
 }
 
 const GROUPS: usize = 4;
 
-// The refusal of this number, at a place of the file.
-pub fn bad(number: u8, at: usize) -> Refusal
-    ensures { result ≡ spec.bad number at }
-{
-    Refusal { number, at }
-}
-
-// A byte as a number of the machine's width.
-pub fn wide(byte: u8) -> usize
-    ensures { result ≡ byte }
-{
-    byte as usize
-}
-
 // The group at a place, marked as followed, with what comes after it: the number began there.
-fn follow(first: usize, low: usize, rest: Number) -> Number
-    requires { (low < 128) × Below 2097152 rest }
-    ensures { result ≡ followed first low rest }
+fn follow(first: usize, low: usize, rest: Result<Number, Refusal>) -> Result<Number, Refusal>
+    requires low { low < 128 }
+    requires rest { Below 2097152 (read rest) }
+    ensures { read result ≡ followed first low (read rest) }
 {
     match rest {
-        Number::Value { value, at: _, next } => {
-            let is_needless = value == 0;
+        Ok(rest) => {
+            let is_needless = rest.value == 0;
             if is_needless {
-                Number::Refused {
-                    refusal: bad(2, first),
-                }
-            } else {
-                Number::Value {
-                    value: low + value * 128,
+                return Err(Refusal {
+                    reason: Reason::NotShortest,
                     at: first,
-                    next,
-                }
+                });
             }
+            Ok(Number {
+                value: low + rest.value * 128,
+                at: first,
+                next: rest.next,
+            })
         }
-        Number::Refused { refusal } => Number::Refused {
-            refusal: bad(refusal.number, first),
-        },
+        Err(Refusal { reason, at: _ }) => Err(Refusal { reason, at: first }),
     }
 }
 
 // The number at a place, in at most `left` groups.
-fn number_in(file: &[u8], at: usize, left: usize) -> Number
+fn number_in(file: &[u8], at: usize, left: usize) -> Result<Number, Refusal>
     requires { left ≤ 4 }
-    ensures { result ≡ number_in left file.now at }
+    ensures { read result ≡ spec.number_in left file.now at }
 {
     if left == 0 {
-        return Number::Refused {
-            refusal: bad(2, at),
-        };
+        return Err(Refusal {
+            reason: Reason::NotShortest,
+            at,
+        });
     }
     if file.len() <= at {
-        return Number::Refused {
-            refusal: bad(1, at),
-        };
+        return Err(Refusal {
+            reason: Reason::CutShort,
+            at,
+        });
     }
-    let byte = wide(file[at]);
+    let byte = usize::from(file[at]);
     let next = at + 1;
     if byte < 128 {
-        return Number::Value {
+        return Ok(Number {
             value: byte,
             at,
             next,
-        };
+        });
     }
     follow(at, byte % 128, number_in(file, next, left - 1))
 }
 
-// The number that starts at a place of the file, which may be past its end.
-pub fn number_at(file: &[u8], at: usize) -> Number
-    ensures { result ≡ number_at file.now at }
+// The number that starts at a place of the file, which may be past its end. A refusal is 1 or 2, and its place is the number's own.
+pub fn number_at(file: &[u8], at: usize) -> Result<Number, Refusal>
+    ensures { read result ≡ spec.number_at file.now at }
 {
     number_in(file, at, GROUPS)
-}
-
-// A number below 256 as a byte.
-fn narrow(value: usize) -> u8
-    requires { value < 256 }
-    ensures { result ≡ value }
-{
-    value as u8
 }
 
 // Writes at most `left` groups of the value from a place on, as far as there is room.
@@ -125,10 +97,10 @@ fn put_in(out: &mut [u8], at: usize, value: usize, left: usize)
         return;
     }
     if value < 128 {
-        out[at] = narrow(value);
+        out[at] = value as u8;
         return;
     }
-    out[at] = narrow(value % 128 + 128);
+    out[at] = (value % 128 + 128) as u8;
     put_in(out, at + 1, value / 128, left - 1);
 }
 
@@ -136,14 +108,11 @@ fn put_in(out: &mut [u8], at: usize, value: usize, left: usize)
 fn size(value: usize) -> usize
     ensures { result ≡ length (groups value) }
 {
-    if value < 128 {
-        1
-    } else if value < 16384 {
-        2
-    } else if value < 2097152 {
-        3
-    } else {
-        4
+    match value {
+        0..128 => 1,
+        128..16384 => 2,
+        16384..2097152 => 3,
+        2097152.. => 4,
     }
 }
 

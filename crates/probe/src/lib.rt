@@ -12,30 +12,10 @@ ghost use Rattle.calls.specs.Ends as ends;
 ghost use Rattle.calls.specs.ProposedTimes as proposed;
 ghost use Rattle.calls.specs.ProposedArcs as listed;
 ghost use Rattle.report.specs.Report as report;
-ghost use Rattle.report.specs.Told.{answer_told};
-ghost use Rattle.values.specs.Answers.{Given};
 ghost use Rattle.values.specs.Handed.{Handed};
 
-use report::Told;
-use values::{Answered, give};
-
-// The report's answer in numbers.
-fn of_told(told: Told) -> Answered
-    ensures { Given result (answer_told told) }
-{
-    match told {
-        Told::Written { length } => Answered {
-            number: 0,
-            count: 1,
-            values: [values::as_value(length), 0, 0, 0, 0, 0, 0, 0],
-        },
-        Told::Refused { number } => Answered {
-            number: values::answer(number),
-            count: 0,
-            values: [0; 8],
-        },
-    }
-}
+use fractions::Fraction;
+use tables::sheets::Sheet;
 
 // The reader: 0 with n, m and V, or the number of the refusal with its place.
 #[unsafe(no_mangle)]
@@ -47,8 +27,7 @@ pub extern "C" fn probe_read(
 ) -> u32
     ensures { Handed (λ a. reading a tables.new schedule.new ≡ read_of (sheet_in file.now) tables.old schedule.old) values.old result values.new }
 {
-    let a = answers::of_read(reader::read_sheet(file, tables, schedule));
-    give(values, a)
+    answers::of_read(reader::read_sheet(file, tables, schedule), values)
 }
 
 // The writer: 0 with the sheet's length, or the number of the refusal.
@@ -64,8 +43,14 @@ pub extern "C" fn probe_write(
 ) -> u32
     ensures { Handed (λ a. writing a out.new ≡ write_of (sheet n m positions tables.now schedule.now) out.old) values.old result values.new }
 {
-    let a = answers::of_written(writer::write_sheet(n, m, positions, tables, schedule, out));
-    give(values, a)
+    let sheet = Sheet {
+        n,
+        m,
+        positions,
+        tables,
+        schedule,
+    };
+    answers::of_length(writer::write_sheet(&sheet, out), values)
 }
 
 // Ask: 0 with the rounds, 100 with the arc count, or the number of the refusal.
@@ -84,8 +69,15 @@ pub extern "C" fn probe_ask(
 ) -> u32
     ensures { Handed (λ a. ask.Outcome (sheet n m positions tables.now schedule.now) p q plan.old circuit.old a plan.new circuit.new) values.old result values.new }
 {
-    let a = answers::of_asked(ask::ask(n, m, positions, tables, schedule, p, q, plan, circuit));
-    give(values, a)
+    let sheet = Sheet {
+        n,
+        m,
+        positions,
+        tables,
+        schedule,
+    };
+    let time = Fraction { top: p, bottom: q };
+    answers::of_asked(ask::ask(&sheet, time, plan, circuit), values)
 }
 
 // Ends: 0 with low's top and bottom, high's where it is not open, and the two arc counts; 101 with the two arc counts; or the number of the refusal.
@@ -102,8 +94,14 @@ pub extern "C" fn probe_ends(
 ) -> u32
     ensures { Handed (λ a. ends.Outcome (sheet n m positions tables.now schedule.now) first.old second.old a first.new second.new) values.old result values.new }
 {
-    let a = answers::of_ended(ends::ends(n, m, positions, tables, schedule, first, second));
-    give(values, a)
+    let sheet = Sheet {
+        n,
+        m,
+        positions,
+        tables,
+        schedule,
+    };
+    answers::of_ended(ends::ends(&sheet, first, second), values)
 }
 
 // Proposed times held to a sheet: 0; 102 with position, kind, to and from of the first window broken; or the number of the refusal.
@@ -121,10 +119,15 @@ pub extern "C" fn probe_times(
 ) -> u32
     ensures { Handed (proposed.Outcome (sheet n m positions tables.now schedule.now) p q times.now) values.old result values.new }
 {
-    let a = verdicts::of_times(keeping::check_times(
-        n, m, positions, tables, schedule, p, q, times,
-    ));
-    give(values, a)
+    let sheet = Sheet {
+        n,
+        m,
+        positions,
+        tables,
+        schedule,
+    };
+    let time = Fraction { top: p, bottom: q };
+    verdicts::of_times(keeping::check_times(&sheet, time, times), values)
 }
 
 // Proposed arcs held to a sheet: 0; 103 with the index of the first bad arc; 104 to 107; or the number of the refusal.
@@ -142,8 +145,15 @@ pub extern "C" fn probe_arcs(
 ) -> u32
     ensures { Handed (listed.Outcome (sheet n m positions tables.now schedule.now) p q arcs.now) values.old result values.new }
 {
-    let a = verdicts::of_arcs(refuting::check_arcs(n, m, positions, tables, schedule, p, q, arcs));
-    give(values, a)
+    let sheet = Sheet {
+        n,
+        m,
+        positions,
+        tables,
+        schedule,
+    };
+    let time = Fraction { top: p, bottom: q };
+    verdicts::of_arcs(refuting::check_arcs(&sheet, time, arcs), values)
 }
 
 // The report: 0 with the text's length, or the number of the refusal.
@@ -151,6 +161,5 @@ pub extern "C" fn probe_arcs(
 pub extern "C" fn probe_report(file: &[u8], out: &mut [u8], values: &mut [u64]) -> u32
     ensures { Handed (λ a. report.Outcome file.now out.old a out.new) values.old result values.new }
 {
-    let a = of_told(report::report(file, out));
-    give(values, a)
+    answers::of_length(report::report(file, out), values)
 }

@@ -5,3 +5,4 @@ pub mod Outcomes
 -- what a caller has
 pub mod Trips
 pub mod Leaves
+pub mod Lending

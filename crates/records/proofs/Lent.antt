@@ -1,7 +1,7 @@
 -- A part of a list that goes to its end: lent, written from its start on, and given back.
 use mathlib.Core.Path.{◌≡◌, sym, ap, ◌∙◌}
 use mathlib.Core.List.{List, [], ◌∷◌, ◌++◌, append-nil}
-use Prim.Native.Nat.{ℕ, suc, ◌+◌, ◌-◌, ◌≤◌, ◌<◌}
+use Prim.Native.Nat.{ℕ, suc, ◌+◌, ◌-◌, ◌≤◌, min}
 use native.Mathlib.Omega.{arith}
 use native.Mathlib.Nat.{add-suc, add-zero}
 use native.Mathlib.Decide.{dec_lt}
@@ -33,16 +33,16 @@ module _ {A : Type 0} where
       same n a h = omega arith
 
   -- what was written in the part is written from `base` on, also where the list does not reach that far
-  pub part_back : (l xs ys : List A) (base a : ℕ) → (base < length l → a ≡ base) × (length l ≤ base → a ≡ length l)
+  pub part_back : (l xs ys : List A) (base a : ℕ) → a ≡ min base (length l)
       → ys ≡ sets (mid_of a (length l - a) l) 0 xs → put_mid a (length l - a) l ys ≡ sets l base xs
   part_back l xs ys base a f e = elim (dec_lt base (length l)) [
     | yes h ↦
-        let q : a ≡ base = f.0 h in
+        let q : a ≡ base = omega (arith, f) in
         back l ys a (omega arith) ∙ ap (λ (z : List A). take a l ++ z) (e ∙ ap (λ (z : List A). sets z 0 xs) (lent l a))
         ∙ sym (sets_part xs l a 0) ∙ ap (λ (k : ℕ). sets l k xs) (add-zero a ∙ q)
     | no h ↦
         let g : length l ≤ base = omega arith in
-        let q : a ≡ length l = f.1 g in
+        let q : a ≡ length l = omega (arith, f) in
         back l ys a (omega arith) ∙ ap (λ (z : List A). take a l ++ z) (e ∙ ap (λ (z : List A). sets z 0 xs) (lent l a))
         ∙ sym (sets_part xs l a 0) ∙ sets_out l (a + 0) xs (omega arith) ∙ sym (sets_out l base xs g)
   ]

@@ -7,7 +7,9 @@ use native.Mathlib.Nat.{add-mul}
 use lib.IntN.{ℤ}
 use lib.ListN.{length, set, replicate, length-set, length-replicate}
 use lib.Seq.{sets}
-use Rattle.numbers.specs.declared.Refusal.{Refusal}
+use Rattle.std.specs.Prelude.{Result, Ok, Err}
+use Rattle.numbers.specs.Refusals.{said}
+use Rattle.numbers.specs.declared.refusals.Refusal as code
 use Rattle.tables.specs.Sheets.{no_window}
 use Rattle.sheet.specs.File.{Part, got, refused, and_then, Placed, records_at, mode_at, modes_at, put, laid, tables_of}
 use Rattle.sheet.proofs.Counting.{one, none}
@@ -15,8 +17,6 @@ use Rattle.sheet.proofs.Following.{then_value, then_refused}
 use Rattle.sheet.proofs.Windows.{Good, good, length_laid}
 use Rattle.sheet.proofs.Sets.{sets_append, set_sets}
 use Rattle.records.specs.Steps.{Walks}
-use Rattle.records.specs.declared.Ending.{Ending}
-use Rattle.records.specs.declared.Ending.TheVariants as ending
 use Rattle.records.proofs.Walking.{grow, stopped}
 use Rattle.records.proofs.Records.{store}
 
@@ -38,7 +38,7 @@ store_mode n was windows = sets was 0 (laid (4 * (n * n)) windows)
 abbrev pub store_from : ℕ → ℕ → List ℤ → List (List Placed) → List ℤ
 store_from n base was modes = sets was base (tables_of n modes)
 
-pub mode_walks : (file : List ℕ) (n count at : ℕ) (part : List ℤ) (r : Ending) (now : List ℤ)
+pub mode_walks : (file : List ℕ) (n count at : ℕ) (part : List ℤ) (r : Result ℕ code.Refusal) (now : List ℤ)
     → Walks store (records_at file n count 0 at) (sets part 0 (replicate (4 * (n * n)) no_window)) r now → Walks (store_mode n) (records_at file n count 0 at) part r now
 unfolding Walks laid
 mode_walks file n count at part r now h = cases (records_at file n count 0 at) refl h
@@ -54,7 +54,7 @@ unroll file n m t p h = ap (λ (k : ℕ). modes_at file n k p) (one m t h)
 
 module _ (file : List ℕ) (n m t p : ℕ) (tables : List ℤ) where
   pub mode_next : t < m → (windows : List Placed) (a : ℕ) → mode_at file n p ≡ got windows a → (after : List ℤ) → after ≡ sets tables (t * (4 * (n * n))) (laid (4 * (n * n)) windows)
-      → (r : Ending) (now : List ℤ) → Walks (store_from n ((t + 1) * (4 * (n * n)))) (modes_at file n (m - (t + 1)) a) after r now → Walks (store_from n (t * (4 * (n * n)))) (modes_at file n (m - t) p) tables r now
+      → (r : Result ℕ code.Refusal) (now : List ℤ) → Walks (store_from n ((t + 1) * (4 * (n * n)))) (modes_at file n (m - (t + 1)) a) after r now → Walks (store_from n (t * (4 * (n * n)))) (modes_at file n (m - t) p) tables r now
   unfolding tables_of
   mode_next h windows a e after q r now g =
       rw (unroll file n m t p h ∙ then_value _ _ windows a e)
@@ -67,9 +67,9 @@ module _ (file : List ℕ) (n m t p : ℕ) (tables : List ℤ) where
       step : (l : List ℤ) → length l ≡ 4 * (n * n) → t * (4 * (n * n)) + length l ≡ (t + 1) * (4 * (n * n))
       step l e = omega (arith, add-mul t 1 (4 * (n * n)))
 
-  pub mode_stop : t < m → (why : Refusal) → mode_at file n p ≡ refused why → (base : ℕ) (now : List ℤ) → Walks (store_from n base) (modes_at file n (m - t) p) tables (ending.Refused why) now
-  mode_stop h why e base now = stopped (store_from n base) _ tables now why (unroll file n m t p h ∙ then_refused _ _ why e)
+  pub mode_stop : t < m → (why : code.Refusal) → mode_at file n p ≡ refused (said why) → (base : ℕ) (now : List ℤ) → Walks (store_from n base) (modes_at file n (m - t) p) tables (Err why) now
+  mode_stop h why e base now = stopped (store_from n base) _ tables now why (unroll file n m t p h ∙ then_refused _ _ (said why) e)
 
-  pub mode_done : m ≤ t → (base : ℕ) → Walks (store_from n base) (modes_at file n (m - t) p) tables (ending.At p) tables
+  pub mode_done : m ≤ t → (base : ℕ) → Walks (store_from n base) (modes_at file n (m - t) p) tables (Ok p) tables
   unfolding Walks modes_at tables_of
   mode_done h base = rw (none m t h) (refl, refl)

@@ -1,17 +1,14 @@
--- The reader's tests of a number as ranges, and the refusal of a number.
-use mathlib.Core.Path.{◌≡◌, refl, sym, ap, ◌∙◌}
+-- The reader's tests of a number as ranges.
+use mathlib.Core.Path.{◌≡◌, refl, sym, ◌∙◌}
 use mathlib.Core.Bool.{Bool, true, false}
 use Prim.Native.Nat.{ℕ, ◌-◌, ◌/◌, ◌%◌, ◌≤◌}
 use native.Mathlib.Omega.{arith}
 use borrow.Author.Tests.{ltb-true, leb-true, eqb-true, eqb-false, lt-ltb, le-leb, eq-eqb}
 use lib.Dec.{leb, ltb, eqb}
 use Rattle.numbers.specs.Signs.{decoded, signed}
-use Rattle.numbers.specs.declared.Refusal.{Refusal}
-use Rattle.numbers.specs.declared.Number.{Number}
-use Rattle.numbers.specs.declared.Number.TheVariants.{Refused}
 use Rattle.tables.specs.Sheets.{in_limit}
 use Rattle.tables.proofs.Laws.{both, yes}
-use Rattle.records.specs.Steps.{between, refusal_in}
+use Rattle.records.specs.Steps.{between}
 
 -- two tests that follow from each other
 pub agree : (a b : Bool) → (a ≡ true → b ≡ true) → (b ≡ true → a ≡ true) → a ≡ b
@@ -42,7 +39,3 @@ module _ (v : ℕ) where
       cases false e =
           let q = eqb-false (v % 2) 1 e in
           agree (leb v 2000000) (leb (v / 2) 1000000) (λ h. le-leb (v / 2) 1000000 (omega (arith, leb-true v 2000000 h))) (λ h. le-leb v 2000000 (omega (arith, leb-true (v / 2) 1000000 h)))
-
--- the refusal of a number
-pub refused_is : (x : Number) (r k : Refusal) → r ≡ refusal_in x → x ≡ Refused k → r ≡ k
-refused_is x r k e q = e ∙ ap refusal_in q

@@ -1,13 +1,12 @@
 -- Four numbers name a window of the sheet exactly if a step of the sheet stands there, and their arc in numbers is the step's at p/q.
 use mathlib.Core.Path.{◌≡◌, refl, sym, ap, ◌∙◌}
-use mathlib.Core.Bool.{Bool, true, false, ◌&&◌, not}
+use mathlib.Core.Bool.{Bool, true, not}
 use mathlib.Core.List.{List}
 use Prim.Native.Nat.{ℕ, zero, suc, ◌+◌, ◌-◌, ◌*◌, ◌≤◌, ◌<◌}
 use native.Mathlib.Omega.{arith}
 use native.Mathlib.Nat.{mul-le-mul}
 use borrow.Author.Tests.{ltb-true, lt-ltb, not-true}
 use lib.Dec.{ltb}
-use lib.IntN.{ℤ}
 use Rattle.theory.specs.Arcs.{rise, fall}
 use Rattle.tables.specs.Sheets.{Sheet, refusal, within, absent}
 use Rattle.tables.specs.Admitted.{Admitted}
@@ -18,25 +17,13 @@ use Rattle.windows.specs.Circuits.{Step, Stands, limit, step_arc, Valid}
 use Rattle.windows.proofs.Listed.{absent_some, some_absent}
 use Rattle.windows.proofs.Limits.{number_small, sheet_laid}
 use Rattle.windows.proofs.Steps.{valid_in}
-use Rattle.edges.specs.Edges.{edge_at}
-use Rattle.edges.specs.Naming.{limit_of, NamesPlace}
+use Rattle.edges.specs.Naming.{four_at, limit_of, NamesPlace}
 use Rattle.edges.proofs.Edges.{weighed, edge_is}
-use Rattle.refuting.specs.Reading.{four_at, named, limit_at, present, edge_for, edge_in}
-use Rattle.refuting.specs.declared.Four.{Four}
-
--- ---- the tests of four numbers, one after the other
-module _ (a b c d : Bool) where
-  pub first_out : a ≡ false → false ≡ (a && b && c && d)
-  first_out e = rw e
-
-  pub second_out : a ≡ true → b ≡ false → false ≡ (a && b && c && d)
-  second_out e f = rw (e, f)
-
-  pub third_out : a ≡ true → b ≡ true → c ≡ false → false ≡ (a && b && c && d)
-  third_out e f g = rw (e, f, g)
-
-  pub fourth : (r : Bool) → a ≡ true → b ≡ true → c ≡ true → r ≡ d → r ≡ (a && b && c && d)
-  fourth r e f g h = h ∙ rw (e, f, g)
+use Rattle.refuting.specs.Reading.{named, limit_at, present, edge_in}
+use Rattle.edges.specs.declared.Four.{Four}
+use Rattle.edges.specs.declared.lines.Line.{Line}
+use Rattle.calls.proofs.Timed.{Timely, timely}
+use Rattle.tables.specs.Lent.{lent}
 
 -- a number below 4 is a kind's
 kind_of : (k : ℕ) → k < 4 → (a : Kind) × (k ≡ number a)
@@ -71,17 +58,9 @@ module _ (s : Sheet) where
   pub present_named : (a : Four) → present s a ≡ true → named s.n s.positions a ≡ true
   present_named a e = (both (named s.n s.positions a) _ e).0
 
-  -- the test of four numbers, and that of their window
-  pub unnamed : (a : Four) (r : Bool) → r ≡ named s.n s.positions a → r ≡ false → false ≡ present s a
-  unnamed a r e f = rw (sym e ∙ f)
-
+  -- the test of four numbers that are named is that of their window
   pub present_is : (a : Four) (r b : Bool) → r ≡ named s.n s.positions a → r ≡ true → b ≡ absent (limit_at s a) → not b ≡ present s a
   present_is a r b e f g = rw (sym e ∙ f, g)
-
-  -- the arc, with the limit that was found
-  pub edge_same : (p q : ℕ) (a : Four) (w : ℤ) → w ≡ limit_at s a
-      → edge_at s.n s.positions p q (a.position - 1) (record { kind = a.kind; to = a.to; from = a.from; w = w }) ≡ edge_for s p q a
-  edge_same p q a w e = rw e
 
   module _ (list : List ℕ) (k : ℕ) where
     -- THEOREM: a step whose window the sheet has stands where the four numbers name a window,
@@ -148,3 +127,7 @@ module _ (s : Sheet) where
         where
           product : (a b m n : ℕ) → a ≤ m → b ≤ n → a * b ≤ m * n
           product a b m n u v = mul-le-mul u v
+
+-- what a line gives
+pub ready : (line : Line) → Timely (lent line.sheet) line.time.top line.time.bottom 0
+ready line = timely (lent line.sheet) line.time.top line.time.bottom 0 (rw (line.admitted, line.timed) refl)

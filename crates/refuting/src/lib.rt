@@ -3,16 +3,22 @@
 // It renders the list of arcs of document 02's E2, "Hold another engine's answer to the sheet".
 #![tactic(auto)]
 
-ghost use Rattle.std.specs.Prelude.{◌≡◌, true, ◌&&◌, ℕ, ◌+◌, ◌*◌, ◌%◌, ◌≤◌, ◌<◌, leb, eqb, length};
+ghost use Rattle.std.specs.Prelude.{◌≡◌, true, ◌&&◌, ℕ, suc, ◌%◌, ◌≤◌, ◌<◌, leb, eqb};
 ghost use Rattle.theory.specs.Circuits.{Distinct, departures, FirstSmallest, Above};
-ghost use Rattle.tables.specs.Sheets.{sheet, refusal, timed};
-ghost use Rattle.calls.specs.ProposedArcs.{Closed, Good};
-ghost use Rattle.edges.specs.Edges.{sheet_of};
-ghost use Rattle.refuting.specs.Reading.{Ready, four_at, named, limit_at, present, edge_for, edge_in, Tells, Searched, Apart, Read, TellsOf};
-ghost use Rattle.refuting.specs.Answers.{Held};
+ghost use Rattle.tables.specs.Lent.{lent};
+ghost use Rattle.calls.specs.ProposedArcs.{arcs_refusal, count, Closed, Good, Outcome};
+ghost use Rattle.edges.specs.Naming.{four_at};
+ghost use Rattle.refuting.specs.Reading.{named, present, edge_for, edge_in, Follows, Tells, Searched, Apart, TellsOf};
+ghost use Rattle.refuting.specs.Answers.{answer_held, Held};
 
-// The answer: a refutation as document 01 describes; the index of the first bad arc; what else is wrong; or the number of a refusal.
-#[derive(Drop)]
+use edges::lines::Line;
+use edges::{Edge, Four, Record, four_at};
+use fractions::Fraction;
+use numbers::refusals::Reason;
+use tables::sheets::Sheet;
+
+// The answer: a refutation as document 01 describes; the index of the first bad arc; or what else is wrong.
+#[derive(Clone, Copy, Debug, PartialEq, Eq)]
 pub enum ArcsHeld {
     Accepted,
     Bad { index: usize },
@@ -20,265 +26,239 @@ pub enum ArcsHeld {
     LeftTwice,
     NotSmallest,
     NotAbove,
-    Refused { number: u8 },
 }
 
-// The four numbers of an arc: kind, position, to, from.
+// A line, and arcs that are proposed for it, four numbers each: neither is refused.
 #[derive(Clone, Copy)]
-struct Four {
-    kind: u8,
-    position: u8,
-    to: u8,
-    from: u8,
+struct Proposal<'s, 'a> {
+    line: Line<'s>,
+    arcs: &'a [u8],
+    ghost unrefused: { arcs_refusal (lent line.sheet) line.time.top line.time.bottom arcs.now ≡ 0 },
 }
 
-// The four numbers of the arc at k of a list.
-fn four_at(arcs: &[u8], k: usize) -> Four
-    requires { 4 * k + 3 < length arcs.now }
-    ensures { result ≡ four_at arcs.now k }
-{
-    let at = 4 * k;
-    Four {
-        kind: arcs[at],
-        position: arcs[at + 1],
-        to: arcs[at + 2],
-        from: arcs[at + 3],
-    }
+// Proposed arcs of which none is bad: each names a window of the sheet, and leaves where the one before arrived.
+#[derive(Clone, Copy)]
+struct Chain<'s, 'a> {
+    line: Line<'s>,
+    arcs: &'a [u8],
+    ghost unrefused: { arcs_refusal (lent line.sheet) line.time.top line.time.bottom arcs.now ≡ 0 },
+    ghost present: { (k : ℕ) → k < count arcs.now → present (lent line.sheet) (four_at arcs.now k) ≡ true },
+    ghost follows: { (k : ℕ) → suc k < count arcs.now → Follows (lent line.sheet) line.time.top line.time.bottom arcs.now k },
 }
 
 // Whether four numbers are those of a kind, a position and two events.
-fn is_named(line: edges::Line, arc: Four) -> bool
-    ensures { result ≡ named line.n line.positions arc }
+fn is_named(sheet: &Sheet, arc: Four) -> bool
+    ensures { result ≡ named sheet.now.n sheet.now.positions arc }
 {
     let is_unknown = 4 <= arc.kind;
     if is_unknown {
         return false;
     }
-    if !tables::is_within(line.positions, arc.position as usize) {
+    if !tables::is_within(sheet.positions, usize::from(arc.position)) {
         return false;
     }
-    if !tables::is_within(line.n, arc.to as usize) {
+    if !tables::is_within(sheet.n, usize::from(arc.to)) {
         return false;
     }
-    tables::is_within(line.n, arc.from as usize)
-}
-
-// The limit of the window that they name.
-fn limit_of(line: edges::Line, tables: &[i32], schedule: &[u8], arc: Four) -> i32
-    requires { Ready line tables.now schedule.now × (named line.n line.positions arc ≡ true) }
-    ensures { result ≡ limit_at (sheet_of line tables.now schedule.now) arc }
-{
-    edges::limit(
-        line.n,
-        line.m,
-        line.positions,
-        tables,
-        schedule,
-        arc.kind,
-        arc.position,
-        arc.to,
-        arc.from,
-    )
+    tables::is_within(sheet.n, usize::from(arc.from))
 }
 
 // Whether they name a window of the sheet.
-fn is_window(line: edges::Line, tables: &[i32], schedule: &[u8], arc: Four) -> bool
-    requires { Ready line tables.now schedule.now }
-    ensures { result ≡ present (sheet_of line tables.now schedule.now) arc }
+fn is_window(line: &Line, arc: Four) -> bool
+    ensures { result ≡ present (lent line.now.sheet) arc }
 {
-    if !is_named(line, arc) {
+    if !is_named(&line.sheet, arc) {
         return false;
     }
-    let value = limit_of(line, tables, schedule, arc);
+    let value = edges::limit(&line.sheet, arc);
     !tables::is_absent(value)
 }
 
 // The arc of the window that they name.
-fn edge_for(line: edges::Line, tables: &[i32], schedule: &[u8], arc: Four) -> edges::Edge
-    requires { Ready line tables.now schedule.now × (present (sheet_of line tables.now schedule.now) arc ≡ true) }
-    ensures { result ≡ edge_for (sheet_of line tables.now schedule.now) line.p line.q arc }
+fn edge_for(line: &Line, arc: Four) -> Edge
+    requires { present (lent line.now.sheet) arc ≡ true }
+    ensures { result ≡ edge_for (lent line.now.sheet) line.now.time.top line.now.time.bottom arc }
 {
-    let value = limit_of(line, tables, schedule, arc);
-    let window = edges::Record {
+    let Line { sheet, time } = line;
+    let window = Record {
         kind: arc.kind,
         to: arc.to,
         from: arc.from,
-        w: value,
+        w: edges::limit(&line.sheet, arc),
     };
-    edges::edge_at(line, arc.position as usize - 1, window)
+    edges::edge_at(
+        sheet.n,
+        sheet.positions,
+        time.top,
+        time.bottom,
+        usize::from(arc.position) - 1,
+        window,
+    )
 }
 
-// The arc at k of a list, which names a window of the sheet.
-fn edge_in(line: edges::Line, tables: &[i32], schedule: &[u8], arcs: &[u8], k: usize) -> edges::Edge
-    requires { Ready line tables.now schedule.now × (4 * k + 3 < length arcs.now) × (present (sheet_of line tables.now schedule.now) (four_at arcs.now k) ≡ true) }
-    ensures { result ≡ edge_in (sheet_of line tables.now schedule.now) line.p line.q arcs.now k }
+// How many arcs a list has.
+fn count(arcs: &[u8]) -> usize
+    ensures { result ≡ count arcs.now }
 {
-    let arc = four_at(arcs, k);
-    edge_for(line, tables, schedule, arc)
+    arcs.len() / 4
 }
 
-// Whether the arc at k is not bad: the sheet has its window, and it leaves where the arc before arrived. The arcs before it are not bad.
-fn is_good(line: edges::Line, tables: &[i32], schedule: &[u8], arcs: &[u8], k: usize) -> bool
-    requires { Ready line tables.now schedule.now × (4 * k + 3 < length arcs.now) × ((j : ℕ) → j < k → Good (sheet_of line tables.now schedule.now) arcs.now j) }
-    ensures { Tells (Good (sheet_of line tables.now schedule.now) arcs.now k) result }
-{
-    let arc = four_at(arcs, k);
-    if !is_window(line, tables, schedule, arc) {
-        return false;
-    }
-    let is_first = k == 0;
-    if is_first {
-        return true;
-    }
-    let before = edge_in(line, tables, schedule, arcs, k - 1);
-    let here = edge_for(line, tables, schedule, arc);
-    here.departure == before.arrival
-}
-
-// The index of the first bad arc, or the count of arcs.
-fn first_bad(line: edges::Line, tables: &[i32], schedule: &[u8], arcs: &[u8], count: usize) -> usize
-    requires { Ready line tables.now schedule.now × (4 * count ≤ length arcs.now) }
-    ensures { Searched (sheet_of line tables.now schedule.now) arcs.now count result }
-{
-    let mut k: usize = 0;
-    while k < count {
-        if !is_good(line, tables, schedule, arcs, k) {
-            return k;
-        }
-        k += 1;
-    }
-    k
-}
-
-// Whether the last arc arrives where the first leaves.
-fn is_closed(line: edges::Line, tables: &[i32], schedule: &[u8], arcs: &[u8], count: usize) -> bool
-    requires { Read line tables.now schedule.now arcs.now count }
-    ensures { TellsOf (sheet_of line tables.now schedule.now) arcs.now Closed result }
-{
-    let first = edge_in(line, tables, schedule, arcs, 0);
-    let last = edge_in(line, tables, schedule, arcs, count - 1);
-    last.arrival == first.departure
-}
-
-// Whether no arc before the one at k leaves the same node.
-fn is_apart(
-    line: edges::Line,
-    tables: &[i32],
-    schedule: &[u8],
-    arcs: &[u8],
-    count: usize,
-    k: usize,
-) -> bool
-    requires { Read line tables.now schedule.now arcs.now count × (1 ≤ k) × (k < count) }
-    ensures { Tells (Apart (sheet_of line tables.now schedule.now) line.p line.q arcs.now k) result }
-{
-    let here = edge_in(line, tables, schedule, arcs, k);
-    let mut i = k;
-    while 0 < i {
-        i -= 1;
-        let other = edge_in(line, tables, schedule, arcs, i);
-        if other.departure == here.departure {
+impl<'s, 'a> Proposal<'s, 'a> {
+    // Whether the arc at k is not bad: the sheet has its window, and it leaves where the arc before arrived. The arcs before it are not bad.
+    fn is_good(&self, k: usize) -> bool
+        requires inside { k < count self.now.arcs.now }
+        requires before { (j : ℕ) → j < k → Good (lent self.now.line.sheet) self.now.arcs.now j }
+        ensures { Tells (Good (lent self.now.line.sheet) self.now.arcs.now k) result }
+    {
+        let arc = four_at(self.arcs, k);
+        if !is_window(&self.line, arc) {
             return false;
         }
-    }
-    true
-}
-
-// Whether no node is left twice. However long the list, one is left again within 193 arcs, since there are at most 192 nodes.
-fn leaves_once(
-    line: edges::Line,
-    tables: &[i32],
-    schedule: &[u8],
-    arcs: &[u8],
-    count: usize,
-) -> bool
-    requires { Read line tables.now schedule.now arcs.now count }
-    ensures { TellsOf (sheet_of line tables.now schedule.now) arcs.now (λ a. Distinct (departures a)) result }
-{
-    let mut k: usize = 1;
-    while k < count {
-        if !is_apart(line, tables, schedule, arcs, count, k) {
-            return false;
+        let is_first = k == 0;
+        if is_first {
+            return true;
         }
-        k += 1;
+        let before = edge_for(&self.line, four_at(self.arcs, k - 1));
+        let here = edge_for(&self.line, arc);
+        here.departure == before.arrival
     }
-    true
-}
 
-// Whether the first arc leaves the smallest node.
-fn starts_smallest(
-    line: edges::Line,
-    tables: &[i32],
-    schedule: &[u8],
-    arcs: &[u8],
-    count: usize,
-) -> bool
-    requires { Read line tables.now schedule.now arcs.now count }
-    ensures { TellsOf (sheet_of line tables.now schedule.now) arcs.now (λ a. FirstSmallest (departures a)) result }
-{
-    let first = edge_in(line, tables, schedule, arcs, 0);
-    let mut k: usize = 0;
-    while k < count {
-        let arc = edge_in(line, tables, schedule, arcs, k);
-        let is_smaller = arc.departure < first.departure;
-        if is_smaller {
-            return false;
+    // The index of the first bad arc.
+    fn first_bad(&self) -> Option<usize>
+        ensures { Searched (lent self.now.line.sheet) self.now.arcs.now result }
+    {
+        for k in 0..count(self.arcs) {
+            if !self.is_good(k) {
+                return Some(k);
+            }
         }
-        k += 1;
+        None
     }
-    true
+
+    // The first bad arc; and where none is bad, what the tests say.
+    fn judge(&self) -> ArcsHeld
+        ensures { Outcome (lent self.now.line.sheet) self.now.line.time.top self.now.line.time.bottom self.now.arcs.now (answer_held result) }
+    {
+        if let Some(index) = self.first_bad() {
+            return ArcsHeld::Bad { index };
+        }
+        let chain = Chain {
+            line: self.line,
+            arcs: self.arcs,
+        };
+        chain.test()
+    }
 }
 
-// Whether the total of the weights is above zero: what the arcs add is more than what they take away. No sum overflows: there are at most 192 arcs, since no
-// node is left twice.
-fn is_above(line: edges::Line, tables: &[i32], schedule: &[u8], arcs: &[u8], count: usize) -> bool
-    requires { Read line tables.now schedule.now arcs.now count × (count ≤ 192) }
-    ensures { TellsOf (sheet_of line tables.now schedule.now) arcs.now (Above line.p line.q) result }
-{
-    let mut rises: u64 = 0;
-    let mut falls: u64 = 0;
-    let mut k: usize = 0;
-    while k < count {
-        let arc = edge_in(line, tables, schedule, arcs, k);
-        rises += arc.rise;
-        falls += arc.fall;
-        k += 1;
+impl<'s, 'a> Chain<'s, 'a> {
+    // The arc at k.
+    fn edge(&self, k: usize) -> Edge
+        requires { k < count self.now.arcs.now }
+        ensures { result ≡ edge_in (lent self.now.line.sheet) self.now.line.time.top self.now.line.time.bottom self.now.arcs.now k }
+    {
+        edge_for(&self.line, four_at(self.arcs, k))
     }
-    falls < rises
-}
 
-// What is wrong with arcs that are closed and leave no node twice: the smallest node first, and then the total.
-fn weigh(line: edges::Line, tables: &[i32], schedule: &[u8], arcs: &[u8], count: usize) -> ArcsHeld
-    requires { Read line tables.now schedule.now arcs.now count × TellsOf (sheet_of line tables.now schedule.now) arcs.now Closed true × TellsOf (sheet_of line tables.now schedule.now) arcs.now (λ a. Distinct (departures a)) true }
-    ensures { Held (sheet_of line tables.now schedule.now) line.p line.q arcs.now result }
-{
-    let smallest = starts_smallest(line, tables, schedule, arcs, count);
-    let above = is_above(line, tables, schedule, arcs, count);
-    let is_misplaced = !smallest;
-    if is_misplaced {
-        return ArcsHeld::NotSmallest;
+    // Whether the last arc arrives where the first leaves.
+    fn is_closed(&self) -> bool
+        ensures { TellsOf (lent self.now.line.sheet) self.now.arcs.now Closed result }
+    {
+        let first = self.edge(0);
+        let last = self.edge(count(self.arcs) - 1);
+        last.arrival == first.departure
     }
-    if !above {
-        return ArcsHeld::NotAbove;
-    }
-    ArcsHeld::Accepted
-}
 
-// What is wrong with arcs of which none is bad: closing, then a node left twice, then the rest.
-fn test(line: edges::Line, tables: &[i32], schedule: &[u8], arcs: &[u8], count: usize) -> ArcsHeld
-    requires { Read line tables.now schedule.now arcs.now count }
-    ensures { Held (sheet_of line tables.now schedule.now) line.p line.q arcs.now result }
-{
-    let closed = is_closed(line, tables, schedule, arcs, count);
-    let once = leaves_once(line, tables, schedule, arcs, count);
-    let is_open = !closed;
-    if is_open {
-        return ArcsHeld::NotClosed;
+    // Whether no arc before the one at k leaves the same node.
+    fn is_apart(&self, k: usize) -> bool
+        requires { k < count self.now.arcs.now }
+        ensures { Tells (Apart (lent self.now.line.sheet) self.now.line.time.top self.now.line.time.bottom self.now.arcs.now k) result }
+    {
+        let here = self.edge(k);
+        for i in 0..k {
+            let other = self.edge(i);
+            if other.departure == here.departure {
+                return false;
+            }
+        }
+        true
     }
-    if !once {
-        return ArcsHeld::LeftTwice;
+
+    // Whether no node is left twice. However long the list, one is left again within 193 arcs, since there are at most 192 nodes.
+    fn leaves_once(&self) -> bool
+        ensures { TellsOf (lent self.now.line.sheet) self.now.arcs.now (λ a. Distinct (departures a)) result }
+    {
+        for k in 1..count(self.arcs) {
+            if !self.is_apart(k) {
+                return false;
+            }
+        }
+        true
     }
-    weigh(line, tables, schedule, arcs, count)
+
+    // Whether the first arc leaves the smallest node.
+    fn starts_smallest(&self) -> bool
+        ensures { TellsOf (lent self.now.line.sheet) self.now.arcs.now (λ a. FirstSmallest (departures a)) result }
+    {
+        let first = self.edge(0);
+        for k in 0..count(self.arcs) {
+            let arc = self.edge(k);
+            let is_smaller = arc.departure < first.departure;
+            if is_smaller {
+                return false;
+            }
+        }
+        true
+    }
+
+    // Whether the total of the weights is above zero: what the arcs add is more than what they take away. No sum overflows: there are at most 192 arcs, since no
+    // node is left twice.
+    fn is_above(&self) -> bool
+        requires { count self.now.arcs.now ≤ 192 }
+        ensures { TellsOf (lent self.now.line.sheet) self.now.arcs.now (Above self.now.line.time.top self.now.line.time.bottom) result }
+    {
+        let mut rises: u64 = 0;
+        let mut falls: u64 = 0;
+        for k in 0..count(self.arcs) {
+            let arc = self.edge(k);
+            rises += arc.rise;
+            falls += arc.fall;
+        }
+        falls < rises
+    }
+
+    // What is wrong with arcs that are closed and leave no node twice: the smallest node first, and then the total.
+    fn weigh(&self) -> ArcsHeld
+        requires closed { TellsOf (lent self.now.line.sheet) self.now.arcs.now Closed true }
+        requires once { TellsOf (lent self.now.line.sheet) self.now.arcs.now (λ a. Distinct (departures a)) true }
+        ensures { Outcome (lent self.now.line.sheet) self.now.line.time.top self.now.line.time.bottom self.now.arcs.now (answer_held result) }
+    {
+        let smallest = self.starts_smallest();
+        let above = self.is_above();
+        let is_misplaced = !smallest;
+        if is_misplaced {
+            return ArcsHeld::NotSmallest;
+        }
+        if !above {
+            return ArcsHeld::NotAbove;
+        }
+        ArcsHeld::Accepted
+    }
+
+    // What is wrong with them: closing, then a node left twice, then the rest.
+    fn test(&self) -> ArcsHeld
+        ensures { Outcome (lent self.now.line.sheet) self.now.line.time.top self.now.line.time.bottom self.now.arcs.now (answer_held result) }
+    {
+        let closed = self.is_closed();
+        let once = self.leaves_once();
+        let is_open = !closed;
+        if is_open {
+            return ArcsHeld::NotClosed;
+        }
+        if !once {
+            return ArcsHeld::LeftTwice;
+        }
+        self.weigh()
+    }
 }
 
 // Whether numbers, so many, are arcs, and all of them whole.
@@ -288,48 +268,21 @@ fn is_whole(many: usize) -> bool
     1 <= many && many % 4 == 0
 }
 
-// Refusal 11; else the first bad arc; else what the tests say.
-fn judge(line: edges::Line, tables: &[i32], schedule: &[u8], arcs: &[u8]) -> ArcsHeld
-    requires { (0 ≡ refusal (sheet_of line tables.now schedule.now)) × (timed line.p line.q ≡ true) }
-    ensures { Held (sheet_of line tables.now schedule.now) line.p line.q arcs.now result }
-{
-    if !is_whole(arcs.len()) {
-        return ArcsHeld::Refused { number: 11 };
-    }
-    let count = arcs.len() / 4;
-    let k = first_bad(line, tables, schedule, arcs, count);
-    if k < count {
-        return ArcsHeld::Bad { index: k };
-    }
-    test(line, tables, schedule, arcs, count)
-}
-
 // Are these arcs a refutation at p/q? Accepted; or what is first wrong with them; or refused, by 4, 5, 6, 10 or 11.
-pub fn check_arcs(
-    n: usize,
-    m: usize,
-    positions: usize,
-    tables: &[i32],
-    schedule: &[u8],
-    p: u64,
-    q: u64,
-    arcs: &[u8],
-) -> ArcsHeld
-    ensures { Held (sheet n m positions tables.now schedule.now) p q arcs.now result }
+pub fn check_arcs(sheet: &Sheet, time: Fraction, arcs: &[u8]) -> Result<ArcsHeld, Reason>
+    ensures { Held (lent sheet.now) time.top time.bottom arcs.now result }
 {
-    let refusal = tables::judge(n, m, positions, tables, schedule);
-    if refusal != 0 {
-        return ArcsHeld::Refused { number: refusal };
+    sheet.admit()?;
+    if !tables::is_timed(time.top, time.bottom) {
+        return Err(Reason::CycleTime);
     }
-    if !tables::is_timed(p, q) {
-        return ArcsHeld::Refused { number: 10 };
-    }
-    let line = edges::Line {
-        n: n,
-        m: m,
-        positions: positions,
-        p: p,
-        q: q,
+    let line = Line {
+        sheet: *sheet,
+        time,
     };
-    judge(line, tables, schedule, arcs)
+    if !is_whole(arcs.len()) {
+        return Err(Reason::Times);
+    }
+    let proposal = Proposal { line, arcs };
+    Ok(proposal.judge())
 }

@@ -6,12 +6,7 @@
 ghost use Rattle.report.specs.Report.{Outcome};
 ghost use Rattle.report.specs.Told.{answer_told};
 
-// The text's length, or the number of the refusal (9).
-#[derive(Drop)]
-pub enum Told {
-    Written { length: usize },
-    Refused { number: u8 },
-}
+use numbers::refusals::Reason;
 
 // Room for every report.
 pub const ROOM: usize = 8192;
@@ -21,19 +16,13 @@ pub const JUDGED: usize = 27685;
 
 // Writes the report of a file's bytes to the start of `out`, and gives its length; refused by 9, exactly if `out` has less room than every
 // report needs.
-pub fn report(file: &[u8], out: &mut [u8]) -> Told
+pub fn report(file: &[u8], out: &mut [u8]) -> Result<usize, Reason>
     ensures { Outcome file.now out.old (answer_told result) out.new }
 {
     let is_short = out.len() < ROOM;
     if is_short {
-        return Told::Refused { number: 9 };
+        return Err(Reason::Room);
     }
-    if file.len() <= JUDGED {
-        return Told::Written {
-            length: telling::tell(file, out),
-        };
-    }
-    Told::Written {
-        length: telling::tell(&file[..JUDGED], out),
-    }
+    let judged = file.len().min(JUDGED);
+    Ok(telling::tell(&file[..judged], out))
 }

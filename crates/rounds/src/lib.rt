@@ -6,48 +6,37 @@
 ghost use Rattle.std.specs.Prelude.{◌≡◌, List, ◌*◌, ◌≤◌, length, replicate};
 ghost use Rattle.edges.specs.declared.Record.{Record};
 ghost use Rattle.layout.specs.Records.{laid_out, Laid};
-ghost use Rattle.turns.specs.Rounds.{round_of, Posed, Parts, Ran};
+ghost use Rattle.turns.specs.Rounds.{round_of, Parts, Ran};
+
+use edges::Record;
+use turns::jobs::Job;
 
 // What the rounds came to: how many changed something, and a node that the last of them raised.
-#[derive(Drop)]
+#[derive(Clone, Copy)]
 pub struct Last {
     pub rounds: usize,
     pub node: usize,
 }
 
-// Table 0.
-pub fn zeros() -> [u64; tables::NODES]
-    ensures { result ≡ replicate 192 0 }
-{
-    [0u64; tables::NODES]
-}
-
 // Lays out the list, and runs rounds over it from table 0, which is all zeros, until one changes nothing, or N of them. The times are then their
 // last table, and the row has the arc that raised each node last. The list stands here, and is lent to those who fill and walk it: handed on by
 // value, it would stand on the stack twice.
-pub fn run(
-    tables: &[i32],
-    m: usize,
-    job: turns::Job,
-    schedule: &[u8],
-    times: &mut [u64],
-    row: &mut [u16],
-) -> Last
-    requires { Posed job schedule.now × (m ≤ 8) × (m * (4 * (job.n * job.n)) ≤ length tables.now) × ((l : List Record) → Laid (laid_out tables.now job.n m) l → Parts l job.n job.start schedule.now job.positions) × (times.old ≡ replicate 192 0) × (length row.old ≡ 192) }
-    ensures { (l : List Record) × Laid (laid_out tables.now job.n m) l × Ran (round_of l job schedule.now) (job.positions * job.n) result.rounds result.node times.new row.new }
+pub fn run(job: &Job, times: &mut [u64], row: &mut [u16]) -> Last
+    requires { (job.now.sheet.m ≤ 8) × (job.now.sheet.m * (4 * (job.now.sheet.n * job.now.sheet.n)) ≤ length job.now.sheet.tables.now) × ((l : List Record) → Laid (laid_out job.now.sheet.tables.now job.now.sheet.n job.now.sheet.m) l → Parts l job.now.sheet.n job.now.start job.now.sheet.schedule.now job.now.sheet.positions) × (times.old ≡ replicate 192 0) × (length row.old ≡ 192) }
+    ensures { (l : List Record) × Laid (laid_out job.now.sheet.tables.now job.now.sheet.n job.now.sheet.m) l × Ran (round_of l job.now) (job.now.sheet.positions * job.now.sheet.n) result.rounds result.node times.new row.new }
 {
-    let mut old = zeros();
-    let left = job.positions * job.n * job.positions;
-    let begin = turns::turn_at(left, 0, 0, 0, job, schedule);
-    let blank = edges::Record {
+    let mut old = [0; tables::NODES];
+    let left = job.sheet.positions * job.sheet.n * job.sheet.positions;
+    let begin = turns::turn_at(left, 0, 0, 0, job);
+    let blank = Record {
         kind: 0,
         to: 0,
         from: 0,
         w: 0,
     };
     let mut list = [blank; tables::PLACES];
-    layout::lay_out(tables, job.n, m, &mut list);
-    let end = walk::walk(&list, begin, job, schedule, &mut old, times, row);
+    layout::lay_out(&job.sheet, &mut list);
+    let end = walk::walk(&list, begin, job, &mut old, times, row);
     Last {
         rounds: end.round,
         node: end.node,

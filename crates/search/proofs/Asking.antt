@@ -24,7 +24,9 @@ use Rattle.search.specs.Searches.{Ready, Asks, Judged, LowStands}
 use Rattle.limits.specs.declared.Weight.{Weight}
 use Rattle.weights.specs.Weights.{weights_in, Lists}
 use Rattle.search.specs.declared.Stand.{Stand}
-use Rattle.search.specs.declared.Tried.TheVariants as tried
+use Rattle.std.specs.Prelude.{Result, Ok, Err, Some, None}
+use Rattle.numbers.specs.declared.refusals.Reason.{Reason}
+use Rattle.numbers.specs.Refusals.{number_of}
 use Rattle.weights.proofs.Held.{count_few}
 use Rattle.search.proofs.Climbing.{beats_lists}
 
@@ -32,15 +34,15 @@ module _ (s : Sheet) (at : Stand) (found₀ : List ℕ) (r : Ready s at found₀
   ok : Admitted s
   ok = accepted s r.admitted
 
-  refused_not : (plan : List ℕ) → length plan ≡ 192 → ask_refusal s at.top at.bottom plan found₀ ≡ 0
-  refused_not plan long = unrefused s r.admitted plan found₀ long r.room at.top at.bottom r.some r.few r.small
+  refused_not : (plan : List ℕ) → length plan ≡ 192 → ask_refusal s at.time.top at.time.bottom plan found₀ ≡ 0
+  refused_not plan long = unrefused s r.admitted plan found₀ long r.room at.time.top at.time.bottom r.some r.few r.small
 
   -- a refutation leaves its circuit at the front
-  shows_beats : (plan₀ plan found : List ℕ) (steps : List Step) (count : ℕ) → length steps ≡ count → Shows s at.top at.bottom plan₀ found₀ steps plan found → Beats s at.top at.bottom found count
+  shows_beats : (plan₀ plan found : List ℕ) (steps : List Step) (count : ℕ) → length steps ≡ count → Shows s at.time.top at.time.bottom plan₀ found₀ steps plan found → Beats s at.time.top at.time.bottom found count
   shows_beats plan₀ plan found steps count counted h =
       record { steps = steps; circuit = h.refutes.circuit; counted = counted; rest = drop (4 * length steps) found₀; starts = h.circuit_is; above = h.refutes.above }
 
-  shows_room : (plan₀ plan found : List ℕ) (steps : List Step) → Shows s at.top at.bottom plan₀ found₀ steps plan found → length found ≡ 768
+  shows_room : (plan₀ plan found : List ℕ) (steps : List Step) → Shows s at.time.top at.time.bottom plan₀ found₀ steps plan found → length found ≡ 768
   shows_room plan₀ plan found steps h =
       omega (
         arith,
@@ -53,15 +55,16 @@ module _ (s : Sheet) (at : Stand) (found₀ : List ℕ) (r : Ready s at found₀
         r.room,
       )
 
-  -- THEOREM: Ask's outcome, where it is asked by the search
-  pub asks : (a : Asked) (plan₀ plan found : List ℕ) → length plan₀ ≡ 192 → ask.Outcome s at.top at.bottom plan₀ found₀ (answer_asked a) plan found → Asks s at a found
-  asks (asked.Accepted rounds) plan₀ plan found long o =
+  -- THEOREM: Ask's outcome, where it is asked by the search: never a refusal
+  pub asks : (a : Result Asked Reason) (plan₀ plan found : List ℕ) → length plan₀ ≡ 192 → ask.Outcome s at.time.top at.time.bottom plan₀ found₀ (answer_asked a) plan found
+      → (r : Asked) × (a ≡ Ok r) × Asks s at r found
+  asks (Ok (asked.Accepted rounds)) plan₀ plan found long o =
       let is = (accepted_is rounds o).1 in
-      ((meaning s ok.size.some_positions at.top at.bottom).0 (ask.planned s at.top at.bottom plan, is.plan_is.solves), ap length is.circuit_same ∙ r.room)
-  asks (asked.Refuted count) plan₀ plan found long o =
+      (asked.Accepted rounds, refl, ((meaning s ok.size.some_positions at.time.top at.time.bottom).0 (ask.planned s at.time.top at.time.bottom plan, is.plan_is.solves), ap length is.circuit_same ∙ r.room))
+  asks (Ok (asked.Refuted count)) plan₀ plan found long o =
       let is = refuted_is count o in
-      (shows_beats plan₀ plan found is.1 count is.2 is.3, shows_room plan₀ plan found is.1 is.3)
-  asks (asked.Refused k) plan₀ plan found long o = let is = refused_is k o in is.1 (sym is.0 ∙ refused_not plan₀ long)
+      (asked.Refuted count, refl, (shows_beats plan₀ plan found is.1 count is.2 is.3, shows_room plan₀ plan found is.1 is.3))
+  asks (Err reason) plan₀ plan found long o = let is = refused_is (number_of reason) o in absurd (is.1 (sym is.0 ∙ refused_not plan₀ long))
 
 -- where the climb stands, Ask may be asked
 pub stands_ready : (s : Sheet) (at : Stand) (low found : List ℕ) → LowStands s at low found → Ready s at found
@@ -78,14 +81,11 @@ stands_ready s at low found h =
 
 -- the answer, with the sums of the circuit that refutes
 module _ (s : Sheet) (at : Stand) (found₀ : List ℕ) (r : Ready s at found₀) (a : Asked) (found : List ℕ) (answered : Asks s at a found) where
-  pub judged_works : (rounds : ℕ) → a ≡ asked.Accepted rounds → Judged s at tried.Works found
+  pub judged_works : (rounds : ℕ) → a ≡ asked.Accepted rounds → Judged s at None found
   judged_works rounds e = subst (λ (x : Asked). Asks s at x found) e answered
 
-  pub judged_never : (k : ℕ) → a ≡ asked.Refused k → ⊥
-  judged_never k e = subst (λ (x : Asked). Asks s at x found) e answered
-
   pub judged_lists : (count : ℕ) → a ≡ asked.Refuted count → Lists s found count
-  judged_lists count e = beats_lists s r.admitted at.top at.bottom found count (subst (λ (x : Asked). Asks s at x found) e answered).0
+  judged_lists count e = beats_lists s r.admitted at.time.top at.time.bottom found count (subst (λ (x : Asked). Asks s at x found) e answered).0
 
-  pub judged_above : (count : ℕ) → a ≡ asked.Refuted count → (w : Weight) → w ≡ weights_in s found count → Judged s at (tried.Above w count) found
+  pub judged_above : (count : ℕ) → a ≡ asked.Refuted count → (w : Weight) → w ≡ weights_in s found count → Judged s at (Some (record { weight = w; arcs = count })) found
   judged_above count e w weighed = let o = subst (λ (x : Asked). Asks s at x found) e answered in (o.0, weighed, o.1)

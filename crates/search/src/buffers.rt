@@ -8,9 +8,5 @@ pub fn copy(from: &[u8], arcs: usize, to: &mut [u8])
     ensures { to.new ≡ copied from.now (4 * arcs) to.old }
 {
     let count = 4 * arcs;
-    let mut k: usize = 0;
-    while k < count {
-        to[k] = from[k];
-        k += 1;
-    }
+    to[..count].copy_from_slice(&from[..count]);
 }

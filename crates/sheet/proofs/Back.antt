@@ -8,7 +8,7 @@ use lib.ListN.{length, take, drop, length-append}
 use lib.Seq.{take_at, drop_at, take_all, drop-length}
 use Rattle.numbers.specs.Groups.{number_at, groups, Bytes, Spans}
 use Rattle.numbers.specs.Signs.{encoded}
-use Rattle.numbers.specs.declared.Number.TheVariants.{Value}
+use Rattle.numbers.specs.Groups.{Value}
 use Rattle.numbers.proofs.Signs.{encoded_decoded}
 use Rattle.numbers.proofs.Ways.{groups_read}
 use Rattle.tables.specs.Sheets.{Sheet}

@@ -14,9 +14,9 @@ use lib.IntN.{ℤ}
 use lib.ListN.{length, get_or, take}
 use lib.Seq.{get_or-take, length-take-le}
 use Rattle.numbers.specs.Groups.{bad, group, number_in, number_at}
-use Rattle.numbers.specs.declared.Refusal.{Refusal}
-use Rattle.numbers.specs.declared.Number.{Number}
-use Rattle.numbers.specs.declared.Number.TheVariants.{Value, Refused}
+use Rattle.numbers.specs.Groups.{Refusal}
+use Rattle.numbers.specs.Groups.{Number}
+use Rattle.numbers.specs.Groups.{Value, Refused}
 use Rattle.numbers.proofs.Tests.{split}
 use Rattle.numbers.proofs.Reading.{EndsWithin, ends, Began, begins, value_began}
 use Rattle.tables.specs.Sheets.{Sheet, within}

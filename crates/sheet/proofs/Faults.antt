@@ -9,8 +9,8 @@ use lib.Dec.{eqb}
 use lib.ListN.{length, take}
 use lib.Seq.{length-take-le}
 use Rattle.numbers.specs.Groups.{number_at}
-use Rattle.numbers.specs.declared.Refusal.{Refusal}
-use Rattle.numbers.specs.declared.Number.TheVariants.{Refused}
+use Rattle.numbers.specs.Groups.{Refusal}
+use Rattle.numbers.specs.Groups.{Refused}
 use Rattle.sheet.proofs.Runs.{Run, Whole, run_rises, run_inside, run_back, one_end, one_refused, one_start}
 
 -- how many numbers are judged in one: for 7 the four of a record

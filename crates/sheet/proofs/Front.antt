@@ -11,8 +11,8 @@ use lib.ListN.{length, get_or, take}
 use lib.Seq.{get_or-take, length-take-le}
 use Rattle.numbers.specs.Groups.{group, number_in, number_at, groups, Bytes}
 use Rattle.numbers.specs.Signs.{decoded}
-use Rattle.numbers.specs.declared.Number.{Number}
-use Rattle.numbers.specs.declared.Number.TheVariants.{Value, Refused}
+use Rattle.numbers.specs.Groups.{Number}
+use Rattle.numbers.specs.Groups.{Value, Refused}
 use Rattle.numbers.proofs.Signs.{encoded_decoded}
 use Rattle.numbers.proofs.Writing.{size_one}
 use Rattle.numbers.proofs.Ways.{groups_read}

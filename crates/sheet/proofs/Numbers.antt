@@ -3,9 +3,9 @@ use mathlib.Core.Path.{◌≡◌, refl, ap, ◌∙◌}
 use mathlib.Core.Bool.{Bool, true, false}
 use Prim.Native.Nat.{ℕ}
 use Rattle.numbers.specs.Groups.{bad}
-use Rattle.numbers.specs.declared.Refusal.{Refusal}
-use Rattle.numbers.specs.declared.Number.{Number}
-use Rattle.numbers.specs.declared.Number.TheVariants.{Value, Refused}
+use Rattle.numbers.specs.Groups.{Refusal}
+use Rattle.numbers.specs.Groups.{Number}
+use Rattle.numbers.specs.Groups.{Value, Refused}
 use Rattle.numbers.proofs.Tests.{split}
 use Rattle.numbers.proofs.Reading.{clash}
 use Rattle.sheet.specs.File.{Part, got, refused, tested, after}

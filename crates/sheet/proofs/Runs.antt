@@ -11,9 +11,9 @@ use lib.Dec.{ltb, eqb}
 use lib.ListN.{length, get_or, take}
 use lib.Seq.{get_or-take, length-take-le}
 use Rattle.numbers.specs.Groups.{followed, group, number_in, number_at}
-use Rattle.numbers.specs.declared.Refusal.{Refusal}
-use Rattle.numbers.specs.declared.Number.{Number}
-use Rattle.numbers.specs.declared.Number.TheVariants.{Value, Refused}
+use Rattle.numbers.specs.Groups.{Refusal}
+use Rattle.numbers.specs.Groups.{Number}
+use Rattle.numbers.specs.Groups.{Value, Refused}
 use Rattle.numbers.proofs.Tests.{split}
 use Rattle.numbers.proofs.Reading.{clash, group_one, group_more, followed_more, EndsWithin, ends, value}
 

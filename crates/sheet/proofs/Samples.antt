@@ -3,7 +3,7 @@ use mathlib.Core.Path.{◌≡◌, refl}
 use mathlib.Core.List.{[], ◌∷◌, map}
 use lib.IntN.{pos}
 use Rattle.numbers.specs.Groups.{bad, number_in, group, followed, grouped}
-use Rattle.numbers.specs.declared.Refusal.{Refusal}
+use Rattle.numbers.specs.Groups.{Refusal}
 use Rattle.tables.specs.Sheets.{Sheet, sheet, no_window}
 use Rattle.sheet.specs.File.{Part, got, refused, tested, after, and_then, rising, value_at, record_at, records_at, mode_at, modes_at, put, laid, tables_of, ended, tables_at, schedule_at, counts_at, sheet_after, sheet_in}
 use Rattle.sheet.specs.Written.{in_groups, cell, placed_of, records, mode_numbers, modes_numbers, sheet_numbers, written}

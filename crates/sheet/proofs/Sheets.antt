@@ -9,7 +9,7 @@ use lib.Dec.{eqb}
 use lib.IntN.{ℤ}
 use lib.ListN.{length, length-append}
 use Rattle.numbers.specs.Groups.{number_at}
-use Rattle.numbers.specs.declared.Number.TheVariants.{Value}
+use Rattle.numbers.specs.Groups.{Value}
 use Rattle.numbers.proofs.Reading.{value_began}
 use Rattle.tables.specs.Sheets.{Sheet, sheet, places}
 use Rattle.tables.proofs.Laws.{within_is}

@@ -12,7 +12,7 @@ use lib.ListN.{length, take, drop, length-drop}
 use lib.Seq.{take-add, drop-drop, drop-append_seam, length-take-le}
 use Rattle.numbers.specs.Groups.{number_at, groups}
 use Rattle.numbers.specs.Signs.{encoded, decoded}
-use Rattle.numbers.specs.declared.Number.TheVariants.{Value}
+use Rattle.numbers.specs.Groups.{Value}
 use Rattle.numbers.proofs.Signs.{decoded_encoded}
 use Rattle.numbers.proofs.Ways.{read_groups}
 use Rattle.numbers.proofs.Reading as reading

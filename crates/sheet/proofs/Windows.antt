@@ -10,7 +10,7 @@ use lib.IntN.{ℤ}
 use lib.ListN.{length, set, replicate, length-set, length-replicate}
 use Rattle.numbers.specs.Groups.{number_at}
 use Rattle.numbers.specs.Signs.{decoded}
-use Rattle.numbers.specs.declared.Number.TheVariants.{Value}
+use Rattle.numbers.specs.Groups.{Value}
 use Rattle.numbers.proofs.Reading.{value_began}
 use Rattle.tables.specs.Sheets.{in_limit, no_window}
 use Rattle.tables.proofs.Laws.{within_is}

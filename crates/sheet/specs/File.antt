@@ -5,9 +5,9 @@
 use Rattle.std.specs.Prelude.{ℕ, zero, suc, ◌+◌, ◌-◌, ◌*◌, Bool, cond, List, [], ◌∷◌, ◌++◌, leb, ltb, eqb, length, set, replicate, ℤ}
 use Rattle.numbers.specs.Groups.{bad, number_at}
 use Rattle.numbers.specs.Signs.{decoded}
-use Rattle.numbers.specs.declared.Refusal.{Refusal}
-use Rattle.numbers.specs.declared.Number.{Number}
-use Rattle.numbers.specs.declared.Number.TheVariants.{Value, Refused}
+use Rattle.numbers.specs.Groups.{Refusal}
+use Rattle.numbers.specs.Groups.{Number}
+use Rattle.numbers.specs.Groups.{Value, Refused}
 use Rattle.tables.specs.Sheets.{Sheet, sheet, no_window, in_limit, within}
 
 -- a part of the file: what was read and the place after it, or the refusal with its place

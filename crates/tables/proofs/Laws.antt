@@ -10,6 +10,7 @@ use borrow.Author.Tests.{ltb-true, leb-true, eqb-true, ltb-false, eqb-false, lt-
 use lib.Dec.{leb, ltb, eqb}
 use lib.ListN.{get_or, length, take, drop}
 use lib.Seq.{drop-cons}
+use Rattle.std.specs.List.{list_all}
 use lib.IntN.{ℤ, pos, negsuc}
 use lib.Signed.{mag, lt_z, le_z}
 use mir.Syntax.{w32}
@@ -32,6 +33,12 @@ pub clash : true ≡ false → ⊥
 clash e = let z : ◌≡◌ {A = ℕ} 0 1 = cc in omega arith
 
 -- ---- lists
+-- std's word for a test of every element
+pub all_is : {A : Type 0} (f : A → Bool) (l : List A) → list_all f l ≡ all f l
+unfolding all
+all_is f [] = refl
+all_is f (a ∷ l) = ap (λ (b : Bool). f a && b) (all_is f l)
+
 -- a test of all the first, one step further
 pub all_step : {A : Type 0} (f : A → Bool) (l : List A) (n k : ℕ) (d : A) → k < n → k < length l
     → all f (take (n - k) (drop k l)) ≡ (f (get_or l k d) && all f (take (n - (k + 1)) (drop (k + 1) l)))

@@ -1,3 +1,4 @@
 pub mod Sheets
+pub mod Lent
 pub mod Admitted
 pub mod Answers

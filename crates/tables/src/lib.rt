@@ -3,8 +3,10 @@
 // It renders document 01's "Numbers and room".
 #![tactic(auto)]
 
-ghost use Rattle.std.specs.Prelude.{◌≡◌, ◌&&◌, ◌≤◌, leb, ltb, length, take};
-ghost use Rattle.tables.specs.Sheets.{within, admits, absent, all, sheet, sized, refusal, timed};
+pub mod sheets;
+
+ghost use Rattle.std.specs.Prelude.{◌≡◌, ◌&&◌, ◌≤◌, leb, not, count_by};
+ghost use Rattle.tables.specs.Sheets.{within, admits, absent, places, timed};
 
 // "Numbers and room": four kinds; n 1..12; m 1..8; V 1..16; w -1,000,000..1,000,000; and "no window".
 pub const KINDS: usize = 4;
@@ -60,69 +62,19 @@ pub fn is_admitted(value: i32) -> bool
     value <= MOST_LIMIT
 }
 
-// Whether n, m and V lie within their limits, and the lists are long enough for them.
-fn is_sized(n: usize, m: usize, positions: usize, tables: &[i32], schedule: &[u8]) -> bool
-    ensures { result ≡ sized (sheet n m positions tables.now schedule.now) }
+// How many places the tables of m modes of n events need: 4·m·n².
+pub fn places(n: usize, m: usize) -> usize
+    requires { (n ≤ 12) × (m ≤ 8) }
+    ensures { result ≡ places n m }
 {
-    if !is_within(MOST_EVENTS, n) {
-        return false;
-    }
-    if !is_within(MOST_MODES, m) {
-        return false;
-    }
-    if !is_within(MOST_POSITIONS, positions) {
-        return false;
-    }
-    if tables.len() < KINDS * m * (n * n) {
-        return false;
-    }
-    positions <= schedule.len()
+    KINDS * m * (n * n)
 }
 
-// Whether the first positions of a schedule name modes below m.
-fn is_scheduled(m: usize, positions: usize, schedule: &[u8]) -> bool
-    requires { positions ≤ length schedule.now }
-    ensures { result ≡ all (λ t. ltb t m) (take positions schedule.now) }
+// How many of the places of a part of the tables say a window.
+pub fn count_windows(part: &[i32]) -> usize
+    ensures { result ≡ count_by (λ v. not (absent v)) part.now }
 {
-    let mut h: usize = 0;
-    while h < positions {
-        if m <= numbers::wide(schedule[h]) {
-            return false;
-        }
-        h += 1;
-    }
-    true
-}
-
-// Whether the first values of the tables may stand there.
-fn are_admitted(count: usize, tables: &[i32]) -> bool
-    requires { count ≤ length tables.now }
-    ensures { result ≡ all admits (take count tables.now) }
-{
-    let mut k: usize = 0;
-    while k < count {
-        if !is_admitted(tables[k]) {
-            return false;
-        }
-        k += 1;
-    }
-    true
-}
-
-// 0 for a sheet in memory that is admitted, and the number of its refusal for any other.
-pub fn judge(n: usize, m: usize, positions: usize, tables: &[i32], schedule: &[u8]) -> u8
-    ensures { result ≡ refusal (sheet n m positions tables.now schedule.now) }
-{
-    if !is_sized(n, m, positions, tables, schedule) {
-        return 4;
-    }
-    if !is_scheduled(m, positions, schedule) {
-        return 5;
-    }
-    if !are_admitted(KINDS * m * (n * n), tables) {
-        return 6;
-    }
-    0
+    part.iter().filter(|&&value| !is_absent(value)).count()
 }
 
 // Whether p and q lie within their limits: refusal 10.

@@ -4,7 +4,6 @@
 
 ghost use Rattle.std.specs.Prelude.{◌≤◌, length};
 
-use report::Told;
 use std::io;
 use std::io::{Read, Write};
 
@@ -26,8 +25,8 @@ fn fill<R: Read>(reader: &mut R, file: &mut [u8]) -> usize
 // Writes the report of a file's bytes out, by way of a buffer with room for every report.
 fn print<W: Write>(writer: &mut W, file: &[u8], out: &mut [u8]) -> io::Result<()> {
     match report::report(file, out) {
-        Told::Written { length } => writer.write_all(&out[..length]),
-        Told::Refused { number: _ } => Ok(()),
+        Ok(length) => writer.write_all(&out[..length]),
+        Err(_) => Ok(()),
     }
 }
 

@@ -15,7 +15,7 @@ use Rattle.theory.specs.Ends.{High, Lowest, LowShown, at_zero, above_zero}
 use Rattle.theory.proofs.Fractions.{lowest_least, low_works}
 use Rattle.theory.proofs.Slopes.{zero_low}
 use Rattle.theory.proofs.Sums.{ups_few}
-use Rattle.numbers.specs.declared.Refusal.{Refusal}
+use Rattle.numbers.specs.Groups.{Refusal}
 use Rattle.tables.specs.Sheets.{Sheet, refusal}
 use Rattle.tables.specs.Answers.{Answer}
 use Rattle.tables.specs.Admitted.{Admitted}
@@ -38,11 +38,16 @@ use Rattle.calls.specs.Ends as ends
 use Rattle.calls.specs.Circuits.{CircuitOrNone}
 use Rattle.calls.specs.Ends.{Finds, Lacks}
 use Rattle.calls.proofs.Ends.Cases.{Gives, found_is, none_is, refused_is}
-use Rattle.ends.specs.Answers.{answer_ended, highest}
+use Rattle.std.specs.Prelude.{Option, Result, Ok, Err}
+use Rattle.std.specs.Result.{IsOk}
+use Rattle.numbers.specs.declared.refusals.Reason.{Reason}
+use Rattle.numbers.specs.Refusals.{number_of}
+use Rattle.search.specs.declared.Stand.{Stand}
+use Rattle.search.specs.declared.NoTime.{NoTime}
+use Rattle.ends.specs.Answers.{answer_ended, highest, arcs_of}
 use Rattle.ends.proofs.Finishing.{found_answer_lem}
 use Rattle.ends.specs.declared.Ended.{Ended}
 use Rattle.ends.specs.declared.Ended.TheVariants as ended
-use Rattle.ends.specs.declared.High.{High as High'}
 use Rattle.weights.proofs.Held.{count_few}
 use Rattle.lines.specs.Lines.{low_word, none_word, first_word, second_word, line, circuit_lines, high_lines, plan_lines, refused_line}
 use Rattle.lines.specs.Buffers.{plan_text, ends_text, found_text, none_text}
@@ -143,14 +148,14 @@ pub tells_got : (bytes : List ℕ) (s : Sheet) (place : ℕ) → sheet_in bytes 
 tells_got bytes s place e x = record { text = x.text; says = subst (λ (w : Part Sheet). Tells w x.text) (sym e) x.says; puts = x.puts }
 
 -- Ask's at low
-module _ (s : Sheet) (top bottom : ℕ) (l : Askable s top bottom) (plan₀ circuit₀ : List ℕ) (long : length plan₀ ≡ 192) (wide : length circuit₀ ≡ 768) (a : Asked) (plan circuit : List ℕ)
+module _ (s : Sheet) (top bottom : ℕ) (l : Askable s top bottom) (plan₀ circuit₀ : List ℕ) (long : length plan₀ ≡ 192) (wide : length circuit₀ ≡ 768) (a : Result Asked Reason) (plan circuit : List ℕ)
     (o : ask.Outcome s top bottom plan₀ circuit₀ (answer_asked a) plan circuit) where
-  seen : (b : Asked) → a ≡ b → ask.Outcome s top bottom plan₀ circuit₀ (answer_asked b) plan circuit
-  seen b e = subst (λ (x : Asked). ask.Outcome s top bottom plan₀ circuit₀ (answer_asked x) plan circuit) e o
+  seen : (b : Result Asked Reason) → a ≡ b → ask.Outcome s top bottom plan₀ circuit₀ (answer_asked b) plan circuit
+  seen b e = subst (λ (x : Result Asked Reason). ask.Outcome s top bottom plan₀ circuit₀ (answer_asked x) plan circuit) e o
 
-  pub asked_plan : (rounds : ℕ) → a ≡ asked.Accepted rounds → length plan ≡ 192 → {mid out : List ℕ} {at next : ℕ} → Puts mid at (plan_text bottom rounds plan s.n s.positions) next out → PlanStands s top bottom mid at next out
+  pub asked_plan : (rounds : ℕ) → a ≡ Ok (asked.Accepted rounds) → length plan ≡ 192 → {mid out : List ℕ} {at next : ℕ} → Puts mid at (plan_text bottom rounds plan s.n s.positions) next out → PlanStands s top bottom mid at next out
   asked_plan rounds e long' {mid} {out} {at} {next} x =
-      let h = (accepted_is rounds (seen (asked.Accepted rounds) e)).1 in
+      let h = (accepted_is rounds (seen (Ok (asked.Accepted rounds)) e)).1 in
       record {
         rounds = rounds;
         plan = plan;
@@ -159,21 +164,29 @@ module _ (s : Sheet) (top bottom : ℕ) (l : Askable s top bottom) (plan₀ circ
         puts = subst (λ (t : List ℕ). Puts mid at t next out) (plan_is s plan (omega (arith, nodes_few s (accepted s l.admitted))) bottom rounds) x;
       }
 
-  pub asked_refuted : (k : ℕ) → a ≡ asked.Refuted k → ⊥
+  pub asked_refuted : (k : ℕ) → a ≡ Ok (asked.Refuted k) → ⊥
   asked_refuted k e =
-      let h = refuted_is k (seen (asked.Refuted k) e) in
+      let h = refuted_is k (seen (Ok (asked.Refuted k)) e) in
       never_both s (accepted s l.admitted).size.some_positions top bottom l.runs.0 l.runs.1 h.1 h.3.refutes
 
-  pub asked_refused : (k : ℕ) → a ≡ asked.Refused k → ⊥
-  asked_refused k e =
-      let h = asked-cases.refused_is k (seen (asked.Refused k) e) in
+  pub asked_refused : (r : Reason) → a ≡ Err r → ⊥
+  asked_refused r e =
+      let h = asked-cases.refused_is (number_of r) (seen (Err r) e) in
       h.1 (sym h.0 ∙ ask-room.unrefused s l.admitted plan₀ circuit₀ long wide top bottom l.some (omega (arith, l.few)) l.small)
 
+  -- so that Ask answers
+  pub asked_ok : IsOk a
+  asked_ok = go a refl
+    where
+      go : (b : Result Asked Reason) → a ≡ b → IsOk b
+      go (Ok e) q = refl
+      go (Err r) q = absurd (asked_refused r q)
+
 -- Ends'
-module _ (s : Sheet) (admitted : refusal s ≡ 0) (first₀ second₀ : List ℕ) (long : length first₀ ≡ 768) (wide : length second₀ ≡ 768) (a : Ended) (first second : List ℕ)
+module _ (s : Sheet) (admitted : refusal s ≡ 0) (first₀ second₀ : List ℕ) (long : length first₀ ≡ 768) (wide : length second₀ ≡ 768) (a : Result Ended Reason) (first second : List ℕ)
     (o : ends.Outcome s first₀ second₀ (answer_ended a) first second) where
-  ended_as : (b : Ended) → a ≡ b → ends.Outcome s first₀ second₀ (answer_ended b) first second
-  ended_as b e = subst (λ (x : Ended). ends.Outcome s first₀ second₀ (answer_ended x) first second) e o
+  ended_as : (b : Result Ended Reason) → a ≡ b → ends.Outcome s first₀ second₀ (answer_ended b) first second
+  ended_as b e = subst (λ (x : Result Ended Reason). ends.Outcome s first₀ second₀ (answer_ended x) first second) e o
 
   -- what Ends gives stands in the two buffers
   stood : {Shows : List Step → List Step → Type 0} {count₁ count₂ : ℕ} → ((cs ds : List Step) → Shows cs ds → CircuitOrNone s cs × CircuitOrNone s ds) → Gives s Shows first₀ second₀ count₁ count₂ first second
@@ -189,17 +202,26 @@ module _ (s : Sheet) (admitted : refusal s ≡ 0) (first₀ second₀ : List ℕ
         second_stands = record { circuit = c.1; counted = g.counted₂; before = second₀; is = g.second_is; room = room₂ };
       }
 
-  pub ended_found : (top bottom : ℕ) (h : High') (count₁ count₂ : ℕ) → a ≡ ended.Found top bottom h count₁ count₂ → length first ≡ 768 → length second ≡ 768
-      → CircuitsStand s (Finds s top bottom (highest h)) first count₁ second count₂
-  ended_found top bottom h count₁ count₂ e =
+  pub ended_found : (low : Stand) (high : Option Stand) → a ≡ Ok (ended.Found low high) → length first ≡ 768 → length second ≡ 768
+      → CircuitsStand s (Finds s low.time.top low.time.bottom (highest high)) first low.arcs second (arcs_of high)
+  ended_found low high e =
       stood (λ cs ds f. (f.first_circuit, f.second_circuit))
-      (found_is top bottom (highest h) count₁ count₂ (subst (λ (x : Answer). ends.Outcome s first₀ second₀ x first second) (found_answer_lem top bottom h _ _ count₁ count₂ refl refl) (ended_as (ended.Found top bottom h count₁ count₂) e)))
+      (found_is low.time.top low.time.bottom (highest high) low.arcs (arcs_of high)
+      (subst (λ (x : Answer). ends.Outcome s first₀ second₀ x first second) (found_answer_lem low high _ _ refl refl) (ended_as (Ok (ended.Found low high)) e)))
 
-  pub ended_none : (count₁ count₂ : ℕ) → a ≡ ended.None count₁ count₂ → length first ≡ 768 → length second ≡ 768 → CircuitsStand s (Lacks s) first count₁ second count₂
-  ended_none count₁ count₂ e = stood (λ cs ds l. (l.first_circuit, l.second_circuit)) (none_is count₁ count₂ (ended_as (ended.None count₁ count₂) e))
+  pub ended_none : (none : NoTime) → a ≡ Ok (ended.None none) → length first ≡ 768 → length second ≡ 768 → CircuitsStand s (Lacks s) first none.first second none.second
+  ended_none none e = stood (λ cs ds l. (l.first_circuit, l.second_circuit)) (none_is none.first none.second (ended_as (Ok (ended.None none)) e))
 
-  pub ended_refused : (k : ℕ) → a ≡ ended.Refused k → ⊥
-  ended_refused k e =
-      let h = refused_is k (ended_as (ended.Refused k) e) in
+  pub ended_refused : (r : Reason) → a ≡ Err r → ⊥
+  ended_refused r e =
+      let h = refused_is (number_of r) (ended_as (Err r) e) in
       let few = nodes_few s (accepted s admitted) in
       h.1 (sym h.0 ∙ rw (admitted, le-leb (4 * nodes s) (length first₀) (omega arith), le-leb (4 * nodes s) (length second₀) (omega arith)) refl)
+
+  -- so that Ends answers
+  pub ended_ok : IsOk a
+  ended_ok = go a refl
+    where
+      go : (b : Result Ended Reason) → a ≡ b → IsOk b
+      go (Ok e) q = refl
+      go (Err r) q = absurd (ended_refused r q)

@@ -3,167 +3,60 @@
 // It renders document 01's "The report", and document 02's E1 in it.
 #![tactic(auto)]
 
-ghost use Rattle.std.specs.Prelude.{◌≡◌, ◌⊎◌, ◌≤◌, length};
-ghost use Rattle.tables.specs.Sheets.{sheet, refusal};
+ghost use Rattle.std.specs.Prelude.{◌≡◌, ◌⊎◌, ◌≤◌};
+ghost use Rattle.tables.specs.Lent.{lent};
 ghost use Rattle.sheet.specs.File.{sheet_in};
-ghost use Rattle.calls.specs.Ends.{Finds};
-ghost use Rattle.ends.specs.Answers.{highest};
 ghost use Rattle.telling.specs.Tells.{TellsEnds, TellsNone, Tells};
-ghost use Rattle.telling.specs.Steps.{TextStands, Askable, PlanStands, CircuitsStand};
+ghost use Rattle.telling.specs.Steps.{TextStands, Askable, PlanStands};
 
 use ask::Asked;
 use endings::{put_found, put_none};
-use ends::{Ended, High};
+use ends::Ended;
+use fractions::Fraction;
 use lines::{put_plan, put_refused};
-use reader::Read;
+use tables::sheets::{Admitted, Sheet};
 
 // Asks for the plan at low, which works, and puts its lines.
-fn tell_plan(
-    n: usize,
-    m: usize,
-    positions: usize,
-    tables: &[i32],
-    schedule: &[u8],
-    top: u64,
-    bottom: u64,
-    plan: &mut [u64],
-    circuit: &mut [u8],
-    out: &mut [u8],
-    at: usize,
-) -> usize
-    requires { Askable (sheet n m positions tables.now schedule.now) top bottom × (length plan.old ≡ 192) × (length circuit.old ≡ 768) × (at ≤ 40000) }
-    ensures { PlanStands (sheet n m positions tables.now schedule.now) top bottom out.old at result out.new }
+fn tell_plan(sheet: &Sheet, low: Fraction, out: &mut [u8], at: usize) -> usize
+    requires { Askable (lent sheet.now) low.top low.bottom × (at ≤ 40000) }
+    ensures { PlanStands (lent sheet.now) low.top low.bottom out.old at result out.new }
 {
-    match ask::ask(
-        n, m, positions, tables, schedule, top, bottom, plan, circuit,
-    ) {
-        Asked::Accepted { rounds } => put_plan(out, at, bottom, rounds, plan, n, positions),
-        // neither is ever taken: low works, and an admitted sheet in this room is not refused there
-        Asked::Refuted { arcs: _ } => at,
-        Asked::Refused { number: _ } => at,
-    }
-}
-
-// The lines of a sheet with ends: these, their circuits and the plan at low.
-fn tell_found(
-    n: usize,
-    m: usize,
-    positions: usize,
-    tables: &[i32],
-    schedule: &[u8],
-    top: u64,
-    bottom: u64,
-    high: High,
-    first: &[u8],
-    arcs: usize,
-    second: &[u8],
-    others: usize,
-    out: &mut [u8],
-) -> usize
-    requires { CircuitsStand (sheet n m positions tables.now schedule.now) (Finds (sheet n m positions tables.now schedule.now) top bottom (highest high)) first.now arcs second.now others }
-    ensures { TextStands (TellsEnds (sheet n m positions tables.now schedule.now)) out.old result out.new }
-{
-    let at = put_found(out, top, bottom, high, first, arcs, second, others);
     let mut plan = [0u64; tables::NODES];
     let mut circuit = [0u8; tables::CIRCUIT];
-    tell_plan(
-        n,
-        m,
-        positions,
-        tables,
-        schedule,
-        top,
-        bottom,
-        &mut plan,
-        &mut circuit,
-        out,
-        at,
-    )
-}
-
-// Finds the ends of an admitted sheet, with their circuits in the two buffers, and puts the lines of what it finds.
-fn tell_sheet(
-    n: usize,
-    m: usize,
-    positions: usize,
-    tables: &[i32],
-    schedule: &[u8],
-    one: &mut [u8],
-    two: &mut [u8],
-    out: &mut [u8],
-) -> usize
-    requires { (refusal (sheet n m positions tables.now schedule.now) ≡ 0) × (length one.old ≡ 768) × (length two.old ≡ 768) }
-    ensures { TextStands (λ text. TellsEnds (sheet n m positions tables.now schedule.now) text ⊎ TellsNone (sheet n m positions tables.now schedule.now) text) out.old result out.new }
-{
-    match ends::ends(n, m, positions, tables, schedule, one, two) {
-        Ended::Found {
-            top,
-            bottom,
-            high,
-            first,
-            second,
-        } => tell_found(
-            n, m, positions, tables, schedule, top, bottom, high, one, first, two, second, out,
-        ),
-        Ended::None { first, second } => put_none(out, one, first, two, second),
-        // never taken: the sheet is admitted, and there is room
-        Ended::Refused { number: _ } => 0,
-    }
-}
-
-// Makes room for two circuits, the longest there are.
-fn tell_admitted(
-    n: usize,
-    m: usize,
-    positions: usize,
-    tables: &[i32],
-    schedule: &[u8],
-    out: &mut [u8],
-) -> usize
-    requires { refusal (sheet n m positions tables.now schedule.now) ≡ 0 }
-    ensures { TextStands (λ text. TellsEnds (sheet n m positions tables.now schedule.now) text ⊎ TellsNone (sheet n m positions tables.now schedule.now) text) out.old result out.new }
-{
-    let mut first = [0u8; tables::CIRCUIT];
-    let mut second = [0u8; tables::CIRCUIT];
-    tell_sheet(
-        n,
-        m,
-        positions,
-        tables,
-        schedule,
-        &mut first,
-        &mut second,
-        out,
-    )
-}
-
-// Reads the sheet, and tells of it in the first places of the room that it was read into, or of its refusal.
-fn tell_read(file: &[u8], tables: &mut [i32], schedule: &mut [u8], out: &mut [u8]) -> usize
-    requires { (length tables.old ≡ 4608) × (length schedule.old ≡ 16) }
-    ensures { TextStands (Tells (sheet_in file.now)) out.old result out.new }
-{
-    let read = reader::read_sheet(file, tables, schedule);
-    match read {
-        Read::Refused { refusal } => put_refused(out, refusal.number, refusal.at),
-        Read::Done { n, m, positions } => {
-            let places = 4 * m * (n * n);
-            tell_admitted(
-                n,
-                m,
-                positions,
-                &tables[..places],
-                &schedule[..positions],
-                out,
-            )
+    // low works, and an admitted sheet in this room is not refused there
+    match ask::ask(sheet, low, &mut plan, &mut circuit).unwrap() {
+        Asked::Accepted { rounds } => {
+            put_plan(out, at, low.bottom, rounds, &plan, sheet.n, sheet.positions)
         }
+        Asked::Refuted { arcs: _ } => unreachable!(),
     }
 }
 
-// Makes room for the largest sheet.
+// Finds the ends of an admitted sheet, and puts the lines of what it finds.
+fn tell_admitted(admitted: &Admitted, out: &mut [u8]) -> usize
+    ensures { TextStands (λ text. TellsEnds (lent admitted.now.sheet) text ⊎ TellsNone (lent admitted.now.sheet) text) out.old result out.new }
+{
+    let sheet = &admitted.sheet;
+    let mut one = [0u8; tables::CIRCUIT];
+    let mut two = [0u8; tables::CIRCUIT];
+    // no refusal fits: the sheet is admitted, and there is room for two circuits
+    match ends::ends(sheet, &mut one, &mut two).unwrap() {
+        Ended::Found { low, high } => {
+            let at = put_found(out, low, high, &one, &two);
+            tell_plan(sheet, low.time, out, at)
+        }
+        Ended::None(none) => put_none(out, none, &one, &two),
+    }
+}
+
+// Reads the sheet, and tells of it in the room that it was read into, or of its refusal.
 pub fn tell(file: &[u8], out: &mut [u8]) -> usize
     ensures { TextStands (Tells (sheet_in file.now)) out.old result out.new }
 {
     let mut tables = [0i32; tables::PLACES];
     let mut schedule = [0u8; tables::MOST_POSITIONS];
-    tell_read(file, &mut tables, &mut schedule, out)
+    match reader::lend(file, &mut tables, &mut schedule) {
+        Ok(admitted) => tell_admitted(&admitted, out),
+        Err(refusal) => put_refused(out, u8::from(refusal.reason), refusal.at),
+    }
 }

@@ -1,3 +1,3 @@
-pub mod Stores
-pub mod Values
 pub mod Puts
+pub mod Spelling
+pub mod Values

@@ -7,7 +7,7 @@ use native.Mathlib.Decide.{dec_lt}
 use native.Mathlib.Nat.{div-add-mod', div-lt_iff_lt-mul}
 use Rattle.text.specs.Text.{spelled, decimal, valued}
 use lib.ListN.{length}
-use Rattle.text.proofs.Stores.{spelled_one, spelled_more, length_more}
+use Rattle.text.proofs.Spelling.{spelled_one, spelled_more, length_more}
 
 valued_append : (v : ℕ) (xs ys : List ℕ) → valued v (xs ++ ys) ≡ valued (valued v xs) ys
 unfolding valued

@@ -12,7 +12,7 @@ use Rattle.edges.specs.declared.Edge.{Edge}
 use Rattle.edges.specs.declared.Record.{Record}
 use Rattle.edges.specs.Edges.{by_kind}
 use Rattle.layout.specs.Records.{blank, listed}
-use Rattle.turns.specs.declared.Site.{Site}
+use Rattle.edges.specs.declared.Site.{Site}
 use Rattle.turns.specs.Rounds.{Named, named, Board, board, asks, raise, after, span, passed, Able, Fine}
 
 -- The position's events and the next one's stand among N nodes.

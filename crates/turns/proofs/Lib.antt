@@ -1,4 +1,4 @@
-pub mod Filling
+pub mod Differing
 pub mod Folds
 pub mod Places
 pub mod Tables

@@ -8,11 +8,19 @@ use native.Mathlib.Nat.{mul-le-mul_right, mul-le-mul}
 use native.Mathlib.Numerals.{add-one}
 use borrow.Author.Tests.{eqb-false}
 use lib.Dec.{eqb}
-use lib.ListN.{get_or}
+use lib.ListN.{get_or, replicate}
 use Rattle.edges.specs.declared.Record.{Record}
 use Rattle.layout.specs.Records.{listed}
-use Rattle.turns.specs.Rounds.{Named, named, site_of, Board, after, span, walked, Parts, Limits}
+use Rattle.edges.specs.Edges.{site_of}
+use Rattle.turns.specs.Posed.{Limits}
+use Rattle.turns.specs.Rounds.{Named, named, Board, after, span, walked, Parts}
 use Rattle.turns.proofs.Folds.{Sited, Inside, fine_inside, after_append}
+
+-- at every place of a repeat stands what is repeated
+pub repeated : {A : Type 0} (a : A) (n i : ℕ) → get_or (replicate n a) i a ≡ a
+repeated a zero i = refl
+repeated a (suc n) zero = refl
+repeated a (suc n) (suc i) = repeated a n i
 
 pub nodes_small : (n positions p : ℕ) → Limits n positions p → positions * n ≤ 192
 nodes_small n positions p l = mul-le-mul l.few_positions l.few_events

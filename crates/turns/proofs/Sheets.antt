@@ -2,7 +2,6 @@
 -- mode, and the arc of a record in numbers is the window's arc at p/q. So the tables are the theory's, and a mark names a window.
 use mathlib.Core.Path.{◌≡◌, refl, sym, ap, ap₂, ◌∙◌, subst}
 use mathlib.Core.Logic.{inl, inr}
-use mathlib.Core.Bool.{Bool, true, false, cond}
 use mathlib.Core.List.Memᴰ
 use mathlib.Core.List.{List, [], ◌∷◌, ◌++◌, map, Memᴰ}
 use Prim.Native.Nat.{ℕ, zero, suc, ◌+◌, ◌-◌, ◌*◌, ◌≤◌, ◌<◌, max}
@@ -10,7 +9,6 @@ use native.Mathlib.Omega.{arith}
 use native.Mathlib.Nat.{mod-eq_of_lt, mul-le-mul_right}
 use native.Mathlib.Decide.{ℕ_discrete, dec_lt}
 use native.Mathlib.Numerals.{add-one}
-use lib.Dec.{eqb}
 use lib.IntN.{pos}
 use lib.ListN.{length, get_or, length-map, get_or-map}
 use Rattle.theory.specs.Arcs.{Arc, rise, fall, only, most, table}
@@ -24,13 +22,13 @@ use Rattle.windows.proofs.Limits.{number_small, place_below, get_or_any, admits_
 use Rattle.edges.specs.declared.Edge.{Edge}
 use Rattle.edges.specs.declared.Record.{Record}
 use Rattle.layout.specs.Records.{listed, mode_records}
-use Rattle.edges.specs.Edges.{edge_of, edge_at}
+use Rattle.edges.specs.Edges.{site_of, edge_of}
 use Rattle.edges.proofs.Places.{as_record, nothing}
 use Rattle.edges.proofs.Edges.{weighed, edge_is}
+use Rattle.edges.proofs.Sites.{edge_there}
 use Rattle.layout.proofs.Laying.{Modes}
 use Rattle.layout.proofs.Windows.{mode_records_lem}
-use Rattle.turns.specs.declared.Site.{Site}
-use Rattle.turns.specs.Rounds.{Named, named, site_of, asks, span, walked, most_of, table_of, Fine, Parts}
+use Rattle.turns.specs.Rounds.{Named, named, asks, span, walked, most_of, table_of, Fine, Parts}
 
 -- ---- the arcs of the list and the arcs of the theory
 -- the named arcs are the theory's, one by one
@@ -81,13 +79,7 @@ module _ (p q : ℕ) where
 -- ---- a record at a position is the window's arc there
 site_edge : (s : Sheet) (p q g : ℕ) → g < s.positions → (a : Window) → 1 ≤ a.to → 1 ≤ a.from → let at = site_of g s.n s.positions p q in
     edge_of (as_record a) at.q at.here at.next at.cross ≡ weighed p q (arc_of s (suc g) a)
-unfolding site_of edge_at
-site_edge s p q g h a to from = same (eqb (g + 1) s.positions) ∙ edge_is s p q g h a to from
-  where
-    same : (b : Bool) → let at = cond {A = Site} b (record { here = g * s.n; next = 0; cross = p; q = q }) (record { here = g * s.n; next = (g + 1) * s.n; cross = 0; q = q }) in
-        edge_of (as_record a) at.q at.here at.next at.cross ≡ cond b (edge_of (as_record a) q (g * s.n) 0 p) (edge_of (as_record a) q (g * s.n) ((g + 1) * s.n) 0)
-    same true = refl
-    same false = refl
+site_edge s p q g h a to from = edge_there g s.n s.positions p q (as_record a) ∙ edge_is s p q g h a to from
 
 -- ---- the list of a sheet
 get_d_in : {A : Type 0} (l : List A) (i : ℕ) (d : A) → i < length l → Memᴰ (get_or l i d) l

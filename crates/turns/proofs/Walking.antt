@@ -10,9 +10,10 @@ use lib.ListN.{length, get_or, take, drop, length-drop}
 use lib.Seq.{length-take-le, get_or-take, get_or-drop}
 use Rattle.edges.specs.declared.Record.{Record}
 use Rattle.layout.specs.Records.{blank, listed}
-use Rattle.turns.specs.declared.Job.{Job}
+use Rattle.turns.specs.declared.jobs.Job.{Job}
 use Rattle.turns.specs.declared.Turn.{Turn}
-use Rattle.turns.specs.Rounds.{Named, site_of, board, after, passed, walked, round_of, turn_of, Able, Posed, Parts, Next, on, still, again, Ran}
+use Rattle.edges.specs.Edges.{site_of}
+use Rattle.turns.specs.Rounds.{Named, board, after, passed, walked, round_of, turn_of, Able, Parts, Next, on, still, again, Ran}
 use Rattle.turns.proofs.Folds.{pass_part, able, boards_same}
 use Rattle.turns.proofs.Places.{AllIn, nodes_small, sited, walked_in, round_none, round_more}
 use Rattle.turns.proofs.Tables.{Running, running_none, running_boards, running_more, ran_still, ran_all}
@@ -26,33 +27,33 @@ pub record Ready (l : List Record) (job : Job) (t : Turn) (old new row : List �
   pub part_in : t.first ≤ t.last
   pub part_below : t.last ≤ length l
   pub able : (i : ℕ) → i < length (part_of l t) → Able (listed (part_of l t) i) t.at old new row
-  pub here : t.position < job.positions
+  pub here : t.position < job.sheet.positions
   pub round : t.round < 192
 
-module _ (l : List Record) (job : Job) (schedule : List ℕ) (posed : Posed job schedule) (parts : Parts l job.n job.start schedule job.positions) (room : length l ≡ 4608) where
+module _ (l : List Record) (job : Job) (parts : Parts l job.sheet.n job.start job.sheet.schedule.now job.sheet.positions) (room : length l ≡ 4608) where
   abbrev N : ℕ
-  N = job.positions * job.n
+  N = job.sheet.positions * job.sheet.n
 
   abbrev U : ℕ
-  U = job.positions
+  U = job.sheet.positions
 
   -- the arcs of the first g positions, and of all
   abbrev W : ℕ → List Named
-  W g = walked l job.start schedule job.n job.positions job.p job.q g
+  W g = walked l job.start job.sheet.schedule.now job.sheet.n job.sheet.positions job.time.top job.time.bottom g
 
   abbrev A : List Named
-  A = round_of l job schedule
+  A = round_of l job
 
   inside : AllIn N A
-  inside = walked_in l job.start schedule job.n job.positions job.p job.q posed.limits posed.q_small parts job.positions (omega arith)
+  inside = walked_in l job.start job.sheet.schedule.now job.sheet.n job.sheet.positions job.time.top job.time.bottom job.posed.limits job.posed.q_small parts job.sheet.positions (omega arith)
 
   few : N ≤ 192
-  few = nodes_small job.n job.positions job.p posed.limits
+  few = nodes_small job.sheet.n job.sheet.positions job.time.top job.posed.limits
 
   -- the turn t, with `began` the row when its round began
   pub record Walking (t : Turn) (old new row : List ℕ) : Type 0 where
     began : List ℕ
-    is : t ≡ turn_of t.left t.round t.position t.node job schedule
+    is : t ≡ turn_of t.left t.round t.position t.node job
     here : t.position < U
     before : t.round < N
     turns : t.left + t.round * U + t.position ≡ N * U
@@ -67,10 +68,10 @@ module _ (l : List Record) (job : Job) (schedule : List ℕ) (posed : Posed job 
     walking : 0 < t.left → Walking t old new row
     pub over : t.left ≡ 0 → Ran A N t.round t.node new row
 
-  pub state_none : (t : Turn) (old new row : List ℕ) → t ≡ turn_of (N * U) 0 0 0 job schedule → new ≡ old → ((v : ℕ) → get_or old v 0 ≡ 0) → length old ≡ 192 → length row ≡ 192 → State t old new row
+  pub state_none : (t : Turn) (old new row : List ℕ) → t ≡ turn_of (N * U) 0 0 0 job → new ≡ old → ((v : ℕ) → get_or old v 0 ≡ 0) → length old ≡ 192 → length row ≡ 192 → State t old new row
   state_none t old new row e same zeros lo lr =
-      let some : 0 < N = mul-pos posed.limits.some_positions posed.limits.some_events in
-      let turns : 0 < N * U = mul-pos some posed.limits.some_positions in
+      let some : 0 < N = mul-pos job.posed.limits.some_positions job.posed.limits.some_events in
+      let turns : 0 < N * U = mul-pos some job.posed.limits.some_positions in
       rw (e, same) (record {
         old_long = lo;
         new_long = lo;
@@ -78,12 +79,12 @@ module _ (l : List Record) (job : Job) (schedule : List ℕ) (posed : Posed job 
         walking = λ h. record {
           began = row;
           is = refl;
-          here = posed.limits.some_positions;
+          here = job.posed.limits.some_positions;
           before = some;
           turns = omega arith;
           long = lr;
           running = running_none A N 0 old row zeros;
-          done = round_none l job.start schedule job.n job.positions job.p job.q old (board old row);
+          done = round_none l job.start job.sheet.schedule.now job.sheet.n job.sheet.positions job.time.top job.time.bottom old (board old row);
         };
         over = λ h. absurd (omega arith);
       })
@@ -92,15 +93,15 @@ module _ (l : List Record) (job : Job) (schedule : List ℕ) (posed : Posed job 
     w : Walking t old new row
     w = s.walking more
 
-    at_is : t.at ≡ site_of t.position job.n job.positions job.p job.q
+    at_is : t.at ≡ site_of t.position job.sheet.n job.sheet.positions job.time.top job.time.bottom
     unfolding w
     at_is = ap (λ (x : Turn). x.at) w.is
 
-    first_is : t.first ≡ get_or job.start (get_or schedule t.position 0) 0
+    first_is : t.first ≡ get_or job.start (get_or job.sheet.schedule.now t.position 0) 0
     unfolding w
     first_is = ap (λ (x : Turn). x.first) w.is
 
-    last_is : t.last ≡ get_or job.start (get_or schedule t.position 0 + 1) 0
+    last_is : t.last ≡ get_or job.start (get_or job.sheet.schedule.now t.position 0 + 1) 0
     unfolding w
     last_is = ap (λ (x : Turn). x.last) w.is
 
@@ -125,8 +126,8 @@ module _ (l : List Record) (job : Job) (schedule : List ℕ) (posed : Posed job 
           part_below = part_below;
           able = λ i h.
               let k : i < t.last - t.first = omega (arith, part_long) in
-              rw (part_at i k) (able l job.n t.last N t.at (t.first + i) old new row (rw last_is (parts.fine t.position w.here))
-              (rw at_is (sited t.position job.n job.positions job.p job.q posed.limits posed.q_small w.here))
+              rw (part_at i k) (able l job.sheet.n t.last N t.at (t.first + i) old new row (rw last_is (parts.fine t.position w.here))
+              (rw at_is (sited t.position job.sheet.n job.sheet.positions job.time.top job.time.bottom job.posed.limits job.posed.q_small w.here))
               (boards_same old old w.began new row N b (s.new_long ∙ sym s.old_long) (s.row_long ∙ sym w.long)) (omega arith));
           here = w.here;
           round = omega (arith, w.before, few);
@@ -136,11 +137,11 @@ module _ (l : List Record) (job : Job) (schedule : List ℕ) (posed : Posed job 
     module _ (new' row' : List ℕ) (passing : board new' row' ≡ after old (passed t.at (part_of l t)) (board new row)) (ln : length new' ≡ 192) (lr : length row' ≡ 192) where
       done_more : board new' row' ≡ after old (W (t.position + 1)) (board old w.began)
       done_more =
-          round_more l job.start schedule job.n job.positions job.p job.q old (board old w.began) t.position (board new row) (board new' row') w.done
+          round_more l job.start job.sheet.schedule.now job.sheet.n job.sheet.positions job.time.top job.time.bottom old (board old w.began) t.position (board new row) (board new' row') w.done
           (rw (← at_is, ← first_is, ← last_is) (passing ∙ ap (λ (x : List Named). after old x (board new row)) (pass_part t.at l (t.last - t.first) t.first (omega (arith, part_in, part_below)))))
 
       -- THEOREM: the turn after it stands as this one did, and fewer are left
-      pub state_more : (t' : Turn) (old' : List ℕ) → Next t job schedule old new' t' old' → State t' old' new' row' × (t'.left < t.left)
+      pub state_more : (t' : Turn) (old' : List ℕ) → Next t job old new' t' old' → State t' old' new' row' × (t'.left < t.left)
       state_more t' old' (on h e o) = (
         rw (e, o) (record {
           old_long = s.old_long;
@@ -181,12 +182,12 @@ module _ (l : List Record) (job : Job) (schedule : List ℕ) (posed : Posed job 
               walking = λ k. record {
                 began = row';
                 is = refl;
-                here = posed.limits.some_positions;
+                here = job.posed.limits.some_positions;
                 before = elim (dec_lt (t.round + 1) N) [ yes x ↦ x | no x ↦ absurd (omega (arith, w.turns, mul-le-mul_right {m = N} {n = t.round + 1} U (omega arith))) ];
                 turns = omega (arith, w.turns);
                 long = lr;
                 running = run;
-                done = round_none l job.start schedule job.n job.positions job.p job.q new' (board new' row');
+                done = round_none l job.start job.sheet.schedule.now job.sheet.n job.sheet.positions job.time.top job.time.bottom new' (board new' row');
               };
               over = λ k. ran_all A N (t.round + 1) d new' row' (full k) (omega (arith, w.before)) run;
             }),
@@ -195,6 +196,6 @@ module _ (l : List Record) (job : Job) (schedule : List ℕ) (posed : Posed job 
         where
           full : t.left - 1 ≡ 0 → t.round + 1 ≡ N
           full k = elim (dec_lt (t.round + 1) N) [
-            | yes x ↦ absurd (omega (arith, w.turns, w.here, posed.limits.some_positions, mul-le-mul_right {m = t.round + 2} {n = N} U (omega arith)))
+            | yes x ↦ absurd (omega (arith, w.turns, w.here, job.posed.limits.some_positions, mul-le-mul_right {m = t.round + 2} {n = N} U (omega arith)))
             | no x ↦ omega (arith, w.before)
           ]

@@ -1,17 +1,17 @@
 -- Rounds over the list of records (document 01, "Rounds"): "Every round reads only the table before it."
 -- These definitions face the code: what one arc, one position and one round do to a table of times and to the row of marks.
 -- proofs/Tables ties them to the tables of the theory, proofs/Sheets to the arcs of a sheet.
-use Rattle.std.specs.Prelude.{◌≡◌, ◌≢◌, cond, ℕ, zero, suc, ◌+◌, ◌-◌, ◌*◌, ◌≤◌, ◌<◌, max, ltb, eqb, length, get_or, set, drop}
+use Rattle.std.specs.Prelude.{◌≡◌, ◌≢◌, cond, ℕ, zero, suc, ◌+◌, ◌-◌, ◌*◌, ◌≤◌, ◌<◌, max, ltb, length, get_or, set, drop}
 use mathlib.Core.List.{List, [], ◌∷◌, ◌++◌, Memᴰ}
 use Rattle.std.proofs.Math.Decide.{ℕ_discrete}
 use Rattle.theory.specs.Arcs.{only}
 use Rattle.edges.specs.declared.Edge.{Edge}
 use Rattle.edges.specs.declared.Record.{Record}
-use Rattle.edges.specs.Edges.{edge_of}
+use Rattle.edges.specs.Edges.{edge_of, site_of}
 use Rattle.layout.specs.Records.{listed}
 use Rattle.windows.specs.Arcs.{up, down}
-use Rattle.turns.specs.declared.Job.{Job}
-use Rattle.turns.specs.declared.Site.{Site}
+use Rattle.turns.specs.declared.jobs.Job.{Job}
+use Rattle.edges.specs.declared.Site.{Site}
 use Rattle.turns.specs.declared.Turn.{Turn}
 
 -- An arc with its mark, which has the node that it leaves and its kind.
@@ -22,12 +22,6 @@ pub record Named : Type 0 where
 -- a record at a position
 abbrev pub named : Record → Site → Named
 named a at = let e = edge_of a at.q at.here at.next at.cross in record { mark = e.departure * 8 + a.kind; edge = e }
-
--- The position g + 1 of V: where its events and those of the next position stand, what crossing costs, and how many steps a unit of time
--- has.
-unfoldable pub site_of : ℕ → ℕ → ℕ → ℕ → ℕ → Site
-site_of g n positions p q =
-    cond (eqb (g + 1) positions) (record { here = g * n; next = 0; cross = p; q = q }) (record { here = g * n; next = (g + 1) * n; cross = 0; q = q })
 
 -- the times, and the row of marks
 pub record Board : Type 0 where
@@ -72,14 +66,14 @@ walked l start schedule n positions p q (suc g) =
     walked l start schedule n positions p q g ++ span (λ k. named (listed l k) (site_of g n positions p q)) (get_or start t 0) (get_or start (t + 1) 0 - get_or start t 0)
 
 -- the arcs of all positions
-abbrev pub round_of : List Record → Job → List ℕ → List Named
-round_of l job schedule = walked l job.start schedule job.n job.positions job.p job.q job.positions
+abbrev pub round_of : List Record → Job → List Named
+round_of l job = walked l job.start job.sheet.schedule.now job.sheet.n job.sheet.positions job.time.top job.time.bottom job.sheet.positions
 
 -- The turn at the position g + 1 of the round r + 1, where `left` turns are left: the mode there has the records from `first` to `last`.
-abbrev pub turn_of : ℕ → ℕ → ℕ → ℕ → Job → List ℕ → Turn
-turn_of left r g node job schedule =
-    let t = get_or schedule g 0 in
-    record { left = left; round = r; position = g; node = node; first = get_or job.start t 0; last = get_or job.start (t + 1) 0; at = site_of g job.n job.positions job.p job.q }
+abbrev pub turn_of : ℕ → ℕ → ℕ → ℕ → Job → Turn
+turn_of left r g node job =
+    let t = get_or job.sheet.schedule.now g 0 in
+    record { left = left; round = r; position = g; node = node; first = get_or job.start t 0; last = get_or job.start (t + 1) 0; at = site_of g job.sheet.n job.sheet.positions job.time.top job.time.bottom }
 
 -- ---- tables over a list of arcs, as the theory has them
 
@@ -126,22 +120,7 @@ pub record Able (a : Record) (at : Site) (old new row : List ℕ) : Type 0 where
   pub cross_small : at.cross < 4294967296000
   pub reach : Reach (named a at).edge old new row
 
--- The numbers of events and positions are within their limits, and so is p.
-pub record Limits (n positions p : ℕ) : Type 0 where
-  pub some_events : 1 ≤ n
-  pub few_events : n ≤ 12
-  pub some_positions : 1 ≤ positions
-  pub few_positions : positions ≤ 16
-  pub p_small : p ≤ 1000000000
-
--- What is asked is within its limits, and each position's mode has a part of the records.
-pub record Posed (job : Job) (schedule : List ℕ) : Type 0 where
-  pub limits : Limits job.n job.positions job.p
-  pub q_small : job.q ≤ 1000
-  pub long : job.positions ≤ length schedule
-  pub mode : (g : ℕ) → g < job.positions → get_or schedule g 0 + 1 < 9
-
--- Those parts are fine.
+-- The parts that the positions' modes have of the records are fine.
 pub record Parts (l : List Record) (n : ℕ) (start schedule : List ℕ) (positions : ℕ) : Type 0 where
   pub rising : (g : ℕ) → g < positions → get_or start (get_or schedule g 0) 0 ≤ get_or start (get_or schedule g 0 + 1) 0
   pub fine : (g : ℕ) → g < positions → Fine l n (get_or start (get_or schedule g 0 + 1) 0)
@@ -162,10 +141,10 @@ pub record Filled (times : List ℕ) (count : ℕ) (old new : List ℕ) : Type 0
 
 -- After a turn comes that of the next position, or, after the last one, that of the next round, which reads what this round wrote; or
 -- none, where the round changed nothing.
-pub data Next (t : Turn) (job : Job) (schedule old new : List ℕ) (t' : Turn) (old' : List ℕ) : Type 0 where
-  on : t.position + 1 < job.positions → t' ≡ turn_of (t.left - 1) t.round (t.position + 1) t.node job schedule → old' ≡ old → Next t job schedule old new t' old'
-  still : job.positions ≤ t.position + 1 → Differs old new (job.positions * job.n) (job.positions * job.n) → t' ≡ turn_of 0 t.round 0 (job.positions * job.n) job schedule → old' ≡ old → Next t job schedule old new t' old'
-  again : job.positions ≤ t.position + 1 → (d : ℕ) → d < job.positions * job.n → Differs old new (job.positions * job.n) d → t' ≡ turn_of (t.left - 1) (t.round + 1) 0 d job schedule → old' ≡ new → Next t job schedule old new t' old'
+pub data Next (t : Turn) (job : Job) (old new : List ℕ) (t' : Turn) (old' : List ℕ) : Type 0 where
+  on : t.position + 1 < job.sheet.positions → t' ≡ turn_of (t.left - 1) t.round (t.position + 1) t.node job → old' ≡ old → Next t job old new t' old'
+  still : job.sheet.positions ≤ t.position + 1 → Differs old new (job.sheet.positions * job.sheet.n) (job.sheet.positions * job.sheet.n) → t' ≡ turn_of 0 t.round 0 (job.sheet.positions * job.sheet.n) job → old' ≡ old → Next t job old new t' old'
+  again : job.sheet.positions ≤ t.position + 1 → (d : ℕ) → d < job.sheet.positions * job.sheet.n → Differs old new (job.sheet.positions * job.sheet.n) d → t' ≡ turn_of (t.left - 1) (t.round + 1) 0 d job → old' ≡ new → Next t job old new t' old'
 
 -- round r + 1 raised v
 abbrev pub Rose : List Named → ℕ → ℕ → Type 0

@@ -1,15 +1,13 @@
--- A call's answer, put in numbers and given, is handed over.
+-- A call's answer, given, is handed over.
 use mathlib.Core.Path.{◌≡◌, sym, ap, ◌∙◌}
 use mathlib.Core.List.{List}
 use Prim.Native.Nat.{ℕ}
 use lib.Seq.{sets}
 use Rattle.tables.specs.Answers.{Answer}
-use Rattle.values.specs.Answers.{values_of, Meets}
-use Rattle.values.specs.declared.Answered.{Answered}
-use Rattle.values.specs.Handed.{Handed}
+use Rattle.values.specs.Handed.{Given, Handed}
 
-pub handed : {Outcome : Answer → Type 0} {values₀ values : List ℕ} {number : ℕ} {a : Answered} → Meets Outcome a → (number ≡ a.number) × (values ≡ sets values₀ 0 (values_of a)) → Handed Outcome values₀ number values
-handed {values₀} m given = record { answer = m.answer; outcome = m.outcome; numbered = given.0 ∙ m.given.numbered; valued = given.1 ∙ ap (sets values₀ 0) m.given.valued }
+pub handed : {Outcome : Answer → Type 0} {values₀ values : List ℕ} {number : ℕ} {answer : Answer} → Outcome answer → Given answer values₀ number values → Handed Outcome values₀ number values
+handed {answer} outcome given = record { answer = answer; outcome = outcome; numbered = given.numbered; valued = given.valued }
 
 -- THEOREM: where the answer is determined, so are the number returned and every place of the list
 pub handed_same : {Outcome : Answer → Type 0} → ((a b : Answer) → Outcome a → Outcome b → a ≡ b) → {values₀ values values' : List ℕ} {number number' : ℕ}

@@ -3,71 +3,48 @@
 // Which number a wrong proposal gets is ours to choose (docs/DECISIONS.md); document 02's E2 says which values come with it.
 #![tactic(auto)]
 
-ghost use Rattle.std.specs.Prelude.{[]};
-ghost use Rattle.tables.specs.Answers as form;
 ghost use Rattle.keeping.specs.Answers.{answer_times};
 ghost use Rattle.refuting.specs.Answers.{answer_arcs};
-ghost use Rattle.values.specs.Answers.{Given};
+ghost use Rattle.values.specs.Handed.{Given};
 
 use keeping::TimesHeld;
+use numbers::refusals::Reason;
 use refuting::ArcsHeld;
-use values::{Answered, answer, as_value};
-
-// A number with no values.
-fn alone(number: u32) -> Answered
-    ensures { Given result (form.answer number []) }
-{
-    Answered {
-        number: number,
-        count: 0,
-        values: [0; 8],
-    }
-}
+use values::{give, refuse};
 
 // That on proposed times.
-pub fn of_times(held: TimesHeld) -> Answered
-    ensures { Given result (answer_times held) }
+pub fn of_times(held: Result<TimesHeld, Reason>, values: &mut [u64]) -> u32
+    ensures { Given (answer_times held) values.old result values.new }
 {
     match held {
-        TimesHeld::Accepted => alone(0),
-        TimesHeld::Broken {
-            position,
-            kind,
-            to,
-            from,
-        } => Answered {
-            number: 102,
-            count: 4,
-            values: [
-                as_value(position),
-                as_value(kind),
-                as_value(to),
-                as_value(from),
-                0,
-                0,
-                0,
-                0,
-            ],
-        },
-        TimesHeld::Refused { number } => alone(answer(number)),
+        Ok(TimesHeld::Accepted) => give(values, 0, &[]),
+        Ok(
+            TimesHeld::Broken {
+                position,
+                kind,
+                to,
+                from,
+            },
+        ) => give(
+            values,
+            102,
+            &[position as u64, kind as u64, to as u64, from as u64],
+        ),
+        Err(reason) => refuse(values, reason),
     }
 }
 
 // That on proposed arcs.
-pub fn of_arcs(held: ArcsHeld) -> Answered
-    ensures { Given result (answer_arcs held) }
+pub fn of_arcs(held: Result<ArcsHeld, Reason>, values: &mut [u64]) -> u32
+    ensures { Given (answer_arcs held) values.old result values.new }
 {
     match held {
-        ArcsHeld::Accepted => alone(0),
-        ArcsHeld::Bad { index } => Answered {
-            number: 103,
-            count: 1,
-            values: [as_value(index), 0, 0, 0, 0, 0, 0, 0],
-        },
-        ArcsHeld::NotClosed => alone(104),
-        ArcsHeld::LeftTwice => alone(105),
-        ArcsHeld::NotSmallest => alone(106),
-        ArcsHeld::NotAbove => alone(107),
-        ArcsHeld::Refused { number } => alone(answer(number)),
+        Ok(ArcsHeld::Accepted) => give(values, 0, &[]),
+        Ok(ArcsHeld::Bad { index }) => give(values, 103, &[index as u64]),
+        Ok(ArcsHeld::NotClosed) => give(values, 104, &[]),
+        Ok(ArcsHeld::LeftTwice) => give(values, 105, &[]),
+        Ok(ArcsHeld::NotSmallest) => give(values, 106, &[]),
+        Ok(ArcsHeld::NotAbove) => give(values, 107, &[]),
+        Err(reason) => refuse(values, reason),
     }
 }

@@ -5,44 +5,39 @@
 
 ghost use Rattle.std.specs.Prelude.{◌≡◌, ℕ, ◌*◌, ◌<◌, length, get_or};
 ghost use Rattle.layout.specs.Records.{listed};
-ghost use Rattle.turns.specs.Rounds.{Able, board, after, passed, round_of, turn_of, Posed, Parts, Ran};
+ghost use Rattle.turns.specs.Rounds.{Able, board, after, passed, round_of, turn_of, Parts, Ran};
+
+use edges::Record;
+use turns::Turn;
+use turns::jobs::Job;
 
 // The records of a turn, lent as a part of the list, one after the other.
-fn pass(records: &[edges::Record], turn: turns::Turn, old: &[u64], new: &mut [u64], row: &mut [u16])
+fn pass(records: &[Record], turn: Turn, old: &[u64], new: &mut [u64], row: &mut [u16])
     requires { (i : ℕ) → i < length records.now → Able (listed records.now i) turn.at old.now new.old row.old }
     ensures { board new.new row.new ≡ after old.now (passed turn.at records.now) (board new.old row.old) }
 {
-    let mut i: usize = 0;
-    while i < records.len() {
-        turns::step(records[i], turn, old, &mut new[..], &mut row[..]);
-        i += 1;
+    for &record in records {
+        turns::step(record, turn, old, new, row);
     }
 }
 
-// Walks the list, the part of a position's mode at each turn, while turns are left.
+// Walks the list, the part of a position's mode at each turn, while turns are left. No `for`: a turn says how many are left, and a round that
+// changed nothing leaves none.
 pub fn walk(
-    list: &[edges::Record; tables::PLACES],
-    begin: turns::Turn,
-    job: turns::Job,
-    schedule: &[u8],
+    list: &[Record; tables::PLACES],
+    begin: Turn,
+    job: &Job,
     old: &mut [u64],
     new: &mut [u64],
     row: &mut [u16],
-) -> turns::Turn
-    requires { Posed job schedule.now × Parts list.now job.n job.start schedule.now job.positions × (begin ≡ turn_of (job.positions * job.n * job.positions) 0 0 0 job schedule.now) × (new.old ≡ old.old) × ((v : ℕ) → get_or old.old v 0 ≡ 0) × (length old.old ≡ 192) × (length row.old ≡ 192) }
-    ensures { Ran (round_of list.now job schedule.now) (job.positions * job.n) result.round result.node new.new row.new }
+) -> Turn
+    requires { Parts list.now job.now.sheet.n job.now.start job.now.sheet.schedule.now job.now.sheet.positions × (begin ≡ turn_of (job.now.sheet.positions * job.now.sheet.n * job.now.sheet.positions) 0 0 0 job.now) × (new.old ≡ old.old) × ((v : ℕ) → get_or old.old v 0 ≡ 0) × (length old.old ≡ 192) × (length row.old ≡ 192) }
+    ensures { Ran (round_of list.now job.now) (job.now.sheet.positions * job.now.sheet.n) result.round result.node new.new row.new }
 {
-    let records = &list[..];
     let mut turn = begin;
     while 0 < turn.left {
-        pass(
-            &records[turn.first..turn.last],
-            turn,
-            old,
-            &mut new[..],
-            &mut row[..],
-        );
-        turn = turns::next(turn, job, schedule, &mut old[..], new);
+        pass(&list[turn.first..turn.last], turn, old, new, row);
+        turn = turns::next(turn, job, old, new);
     }
     turn
 }

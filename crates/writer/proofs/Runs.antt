@@ -1,13 +1,13 @@
 -- Numbers written one after the other: the laws of `run`.
 use mathlib.Core.Path.{◌≡◌, sym, ap, ap₂, ◌∙◌}
 use mathlib.Core.List.{List, [], ◌∷◌, ◌++◌, append-nil}
-use Prim.Native.Nat.{ℕ, ◌+◌, ◌*◌, ◌≤◌}
+use Prim.Native.Nat.{ℕ, ◌+◌}
 use native.Mathlib.Omega.{arith}
 use lib.ListN.{length, length-append}
 use lib.Seq.{sets}
 use Rattle.numbers.specs.Groups.{groups}
 use Rattle.sheet.specs.Written.{in_groups}
-use Rattle.sheet.proofs.Groups.{in_groups_append, in_groups_few}
+use Rattle.sheet.proofs.Groups.{in_groups_append}
 use Rattle.sheet.proofs.Sets.{sets_append}
 use Rattle.writer.specs.Steps.{State, state, run}
 
@@ -26,13 +26,6 @@ module _ (out : List ℕ) (at : ℕ) where
   run_one v size now e q = rw (append-nil (groups v)) (ap₂ (λ (k : ℕ) (l : List ℕ). state (at + k) l) e q)
 
   module _ (a : List ℕ) (p : ℕ) (now : List ℕ) (e : state p now ≡ run out at a) where
-    pub run_place : p ≡ at + length (in_groups a)
-    unfolding run
-    run_place = ap (λ (s : State). s.next) e
-
-    pub run_few : p ≤ at + 4 * length a
-    run_few = omega (arith, run_place, in_groups_few a)
-
     -- and others are written after them
     pub run_then : (b : List ℕ) → run now p b ≡ run out at (a ++ b)
     unfolding run

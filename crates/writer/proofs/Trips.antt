@@ -13,7 +13,7 @@ use Rattle.sheet.specs.File.{got, sheet_in}
 use Rattle.sheet.specs.Written.{written}
 use Rattle.sheet.proofs.There.{read_written}
 use Rattle.writer.specs.Answers.{Writing, writing, unwritten, write_into, Writes}
-use Rattle.writer.specs.declared.Written.TheVariants as wrote
+use Rattle.std.specs.Prelude.{Ok}
 
 -- ---- what "done" says of the writer
 pub record Wrote (s : Sheet) (out₀ : List ℕ) (k : ℕ) (out : List ℕ) : Type 0 where
@@ -22,7 +22,7 @@ pub record Wrote (s : Sheet) (out₀ : List ℕ) (k : ℕ) (out : List ℕ) : Ty
   pub fits : k ≤ length out₀
   pub bytes : out ≡ written s ++ drop k out₀
 
-pub done_written : (s : Sheet) (out₀ : List ℕ) (k : ℕ) (out : List ℕ) → Writes s out₀ (wrote.Done k) out → Wrote s out₀ k out
+pub done_written : (s : Sheet) (out₀ : List ℕ) (k : ℕ) (out : List ℕ) → Writes s out₀ (Ok k) out → Wrote s out₀ k out
 done_written s out₀ k out e = judged (eqb (refusal s) 0) refl e
   where
     room : refusal s ≡ 0 → (b : Bool) → leb (length (written s)) (length out₀) ≡ b
@@ -38,7 +38,7 @@ done_written s out₀ k out e = judged (eqb (refusal s) 0) refl e
     judged false q e = absurd (omega (arith, ap (λ (w : Writing). length w.answer.values) e))
 
 -- THEOREM: reading what the writer left gives the sheet back, without its surplus
-pub read_back : (s : Sheet) (out₀ : List ℕ) (k : ℕ) (out : List ℕ) → Writes s out₀ (wrote.Done k) out → sheet_in (take k out) ≡ got (exact s) k
+pub read_back : (s : Sheet) (out₀ : List ℕ) (k : ℕ) (out : List ℕ) → Writes s out₀ (Ok k) out → sheet_in (take k out) ≡ got (exact s) k
 read_back s out₀ k out e =
     let w = done_written s out₀ k out e in
     ap sheet_in (ap (take k) w.bytes ∙ take_at (written s) (drop k out₀) k (sym w.long)) ∙ read_written s w.admitted ∙ ap (got (exact s)) (sym w.long)

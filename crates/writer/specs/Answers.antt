@@ -1,15 +1,15 @@
 -- The outcome of writing a sheet: the answer, and what the buffer holds after it.
-use Rattle.std.specs.Prelude.{ℕ, ◌≡◌, cond, List, [], ◌∷◌, ◌++◌, leb, eqb, length, drop}
+use Rattle.std.specs.Prelude.{ℕ, ◌≡◌, cond, List, [], ◌∷◌, ◌++◌, leb, eqb, length, drop, Result, Ok, Err}
+use Rattle.numbers.specs.declared.refusals.Reason.{Reason}
+use Rattle.numbers.specs.Refusals.{number_of}
 use Rattle.tables.specs.Sheets.{Sheet, refusal}
 use Rattle.sheet.specs.Written.{written}
 use Rattle.tables.specs.Answers.{Answer, answer}
-use Rattle.writer.specs.declared.Written.{Written}
-use Rattle.writer.specs.declared.Written.TheVariants as wrote
 
--- 0, "done", with "the sheet's length"
-abbrev pub answer_written : Written → Answer
-answer_written (wrote.Done count) = answer 0 (count ∷ [])
-answer_written (wrote.Refused k) = answer k []
+-- 0, "done", with "the sheet's length"; or a refusal, by the number of its reason
+abbrev pub answer_written : Result ℕ Reason → Answer
+answer_written (Ok count) = answer 0 (count ∷ [])
+answer_written (Err reason) = answer (number_of reason) []
 
 -- what the writer leaves
 pub record Writing : Type 0 where
@@ -36,5 +36,5 @@ abbrev pub write_of : Sheet → List ℕ → Writing
 write_of s out = cond (eqb (refusal s) 0) (write_into (written s) out) (unwritten (refusal s) out)
 
 -- the outcome of writing: the answer and the buffer, by the sheet and the buffer before
-abbrev pub Writes : Sheet → List ℕ → Written → List ℕ → Type 0
+abbrev pub Writes : Sheet → List ℕ → Result ℕ Reason → List ℕ → Type 0
 Writes s out₀ answer out = writing (answer_written answer) out ≡ write_of s out₀

@@ -3,7 +3,7 @@ use mathlib.Core.Path.{◌≡◌, refl, sym, subst}
 use mathlib.Core.List.{List, [], ◌∷◌}
 use Prim.Native.Nat.{ℕ}
 use lib.IntN.{ℤ}
-use Rattle.numbers.specs.declared.Refusal.{Refusal}
+use Rattle.numbers.specs.Groups.{Refusal}
 use Rattle.tables.specs.Sheets.{Sheet}
 use Rattle.tables.specs.Answers.{Answer, answer}
 use Rattle.sheet.specs.File.{Part, got, refused, sheet_in}

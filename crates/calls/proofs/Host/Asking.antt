@@ -7,7 +7,7 @@ use mathlib.Core.List.{List}
 use Prim.Native.Nat.{ℕ}
 use native.Mathlib.Omega.{arith}
 use lib.ListN.{length}
-use Rattle.numbers.specs.declared.Refusal.{Refusal}
+use Rattle.numbers.specs.Groups.{Refusal}
 use Rattle.tables.specs.Sheets.{Sheet, timed, refusal, unless}
 use Rattle.tables.specs.Answers.{Answer}
 use Rattle.tables.proofs.Answers.{number_same}

@@ -1,9 +1,15 @@
--- `checker::tamulehk_check_arcs` meets its contract: the answer, handed over.
+-- `checker::tamulehk_check_arcs` meets its contract: the sheet that the arcs are held to is the one that the bytes are read as.
+use native.Mathlib.Omega.{arith}
+use Rattle.reader.proofs.Lending.{lends_sheet, lends_refused}
+use Rattle.calls.proofs.Checker.Reading.{arcs_refused_first, arcs_read}
 use Rattle.values.proofs.Handing.{handed}
 use Rattle.checker.proofs.tamulehk_check_arcs.Goals as goal
 
-pub give-requires : goal.give-requires
-give-requires c = let m = c.judge_arcs-a.ensures.given in (m.few, m.room)
+pub returns-in-Ok : goal.returns-in-Ok
+returns-in-Ok c = let r = lends_sheet c.args.file.now _ _ c.in-Ok.admitted (rw c.in-Ok.is at c.lend.ensures) in
+    handed (arcs_read _ c.args.p c.args.q c.args.arcs.now _ r.next r.is _ c.check_arcs.ensures) c.of_arcs.ensures
 
-pub returns : goal.returns
-returns c = handed c.judge_arcs-a.ensures c.give.ensures
+pub returns-in-Err : goal.returns-in-Err
+returns-in-Err c =
+    let r = lends_refused c.args.file.now _ _ c.in-Err.unread (omega arith) (omega arith) (rw c.in-Err.is at c.lend.ensures) in
+    handed (arcs_refused_first _ c.args.p c.args.q c.args.arcs.now _ r) c.refuse_at.ensures

@@ -1,9 +1,15 @@
--- `checker::tamulehk_check_times` meets its contract: the answer, handed over.
+-- `checker::tamulehk_check_times` meets its contract: the sheet that the times are held to is the one that the bytes are read as.
+use native.Mathlib.Omega.{arith}
+use Rattle.reader.proofs.Lending.{lends_sheet, lends_refused}
+use Rattle.calls.proofs.Checker.Reading.{times_refused_first, times_read}
 use Rattle.values.proofs.Handing.{handed}
 use Rattle.checker.proofs.tamulehk_check_times.Goals as goal
 
-pub give-requires : goal.give-requires
-give-requires c = let m = c.judge_times-a.ensures.given in (m.few, m.room)
+pub returns-in-Ok : goal.returns-in-Ok
+returns-in-Ok c = let r = lends_sheet c.args.file.now _ _ c.in-Ok.admitted (rw c.in-Ok.is at c.lend.ensures) in
+    handed (times_read _ c.args.p c.args.q c.args.times.now _ r.next r.is _ c.check_times.ensures) c.of_times.ensures
 
-pub returns : goal.returns
-returns c = handed c.judge_times-a.ensures c.give.ensures
+pub returns-in-Err : goal.returns-in-Err
+returns-in-Err c =
+    let r = lends_refused c.args.file.now _ _ c.in-Err.refusal (omega arith) (omega arith) (rw c.in-Err.is at c.lend.ensures) in
+    handed (times_refused_first _ c.args.p c.args.q c.args.times.now _ r) c.refuse_at.ensures

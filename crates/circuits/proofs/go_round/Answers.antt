@@ -7,44 +7,44 @@ use Rattle.circuits.proofs.Ways.{sound_here, going_none, going_few, going_less, 
 use Rattle.circuits.proofs.go_round.Goals as goal
 use Rattle.circuits.proofs.go_round.Goals.{then-is_less, else-is_less}
 
-pub offset_bounds-row-u : goal.offset_bounds-row-u
-offset_bounds-row-u c = let a = c.args in omega (arith, c.requires.0.rowed.few, sound_here a.row.now a.n a.positions a.u c.requires.0 0 a.u (back_none (before a.row.now) a.u))
+pub offset_bounds-marks-u : goal.offset_bounds-marks-u
+offset_bounds-marks-u c = let a = c.args in omega (arith, c.requires.0.rowed.few, sound_here a.marks.now.row.now a.marks.now.n a.marks.now.positions a.u c.requires.0 0 a.u (back_none (before a.marks.now.row.now) a.u))
 
-pub bounds-row-u : goal.bounds-row-u
-bounds-row-u c = let a = c.args in omega (arith, c.requires.0.rowed.long, sound_here a.row.now a.n a.positions a.u c.requires.0 0 a.u (back_none (before a.row.now) a.u))
+pub bounds-marks-u : goal.bounds-marks-u
+bounds-marks-u c = let a = c.args in omega (arith, c.requires.0.rowed.long, sound_here a.marks.now.row.now a.marks.now.n a.marks.now.positions a.u c.requires.0 0 a.u (back_none (before a.marks.now.row.now) a.u))
 
 pub loop-x-init : goal.loop-x-init
-loop-x-init c = let a = c.args in going_none (before a.row.now) a.u c.departure-x.result c.departure-x.ensures
+loop-x-init c = let a = c.args in going_none (before a.marks.now.row.now) a.u c.departure-x.result c.departure-x.ensures
 
 pub overflow_add-count : goal.overflow_add-count
 overflow_add-count c =
-    let few : c.loop-x.count < c.args.positions * c.args.n = let a = c.args in
-    omega (arith, c.requires.1.1, going_few (before a.row.now) a.u c.loop-x.least c.loop-x.count c.loop-x.x c.loop-x.invariant c.requires.1.0 c.requires.1.2 c.loop-x-test.true) in
+    let few : c.loop-x.count < c.args.marks.now.positions * c.args.marks.now.n = let a = c.args in
+    omega (arith, c.requires.1.1, going_few (before a.marks.now.row.now) a.u c.loop-x.least c.loop-x.count c.loop-x.x c.loop-x.invariant c.requires.1.0 c.requires.1.2 c.loop-x-test.true) in
     omega (arith, c.requires.0.rowed.few, few)
 
-pub offset_bounds-row-x : goal.offset_bounds-row-x
-offset_bounds-row-x c =
-    let in_row : c.loop-x.x < c.args.positions * c.args.n = let a = c.args in sound_here a.row.now a.n a.positions a.u c.requires.0 c.loop-x.count c.loop-x.x c.loop-x.invariant.there in
+pub offset_bounds-marks-x : goal.offset_bounds-marks-x
+offset_bounds-marks-x c =
+    let in_row : c.loop-x.x < c.args.marks.now.positions * c.args.marks.now.n = let a = c.args in sound_here a.marks.now.row.now a.marks.now.n a.marks.now.positions a.u c.requires.0 c.loop-x.count c.loop-x.x c.loop-x.invariant.there in
     omega (arith, c.requires.0.rowed.few, in_row)
 
-pub bounds-row-x : goal.bounds-row-x
-bounds-row-x c =
-    let in_row : c.loop-x.x < c.args.positions * c.args.n = let a = c.args in sound_here a.row.now a.n a.positions a.u c.requires.0 c.loop-x.count c.loop-x.x c.loop-x.invariant.there in
+pub bounds-marks-x : goal.bounds-marks-x
+bounds-marks-x c =
+    let in_row : c.loop-x.x < c.args.marks.now.positions * c.args.marks.now.n = let a = c.args in sound_here a.marks.now.row.now a.marks.now.n a.marks.now.positions a.u c.requires.0 c.loop-x.count c.loop-x.x c.loop-x.invariant.there in
     omega (arith, c.requires.0.rowed.long, in_row)
 
 pub loop-x-smaller : goal.loop-x-smaller
 loop-x-smaller c =
-    let few : c.loop-x.count < c.args.positions * c.args.n = let a = c.args in
-    omega (arith, c.requires.1.1, going_few (before a.row.now) a.u c.loop-x.least c.loop-x.count c.loop-x.x c.loop-x.invariant c.requires.1.0 c.requires.1.2 c.loop-x-test.true) in
+    let few : c.loop-x.count < c.args.marks.now.positions * c.args.marks.now.n = let a = c.args in
+    omega (arith, c.requires.1.1, going_few (before a.marks.now.row.now) a.u c.loop-x.least c.loop-x.count c.loop-x.x c.loop-x.invariant c.requires.1.0 c.requires.1.2 c.loop-x-test.true) in
     omega (arith, few)
 
 pub loop-x-preserved : goal.loop-x-preserved
 loop-x-preserved c = let a = c.args in
-    let b = before a.row.now in
+    let b = before a.marks.now.row.now in
     elim c.if-is_less.branch [
       | then-is_less w ↦ rw w.least-is (going_less b a.u c.loop-x.least c.loop-x.count c.loop-x.x c.loop-x.invariant c.loop-x-test.true c.departure-x-in-loop-x.result c.departure-x-in-loop-x.ensures (omega (arith, w.if-is_less.true)))
       | else-is_less w ↦ rw w.least-is (going_more b a.u c.loop-x.least c.loop-x.count c.loop-x.x c.loop-x.invariant c.loop-x-test.true c.departure-x-in-loop-x.result c.departure-x-in-loop-x.ensures (omega (arith, w.if-is_less.false)))
     ]
 
 pub returns : goal.returns
-returns c = let a = c.args in going_round (before a.row.now) a.u c.loop-x.least c.loop-x.count c.loop-x.x c.loop-x.invariant c.loop-x-test.false
+returns c = let a = c.args in going_round (before a.marks.now.row.now) a.u c.loop-x.least c.loop-x.count c.loop-x.x c.loop-x.invariant c.loop-x-test.false

@@ -5,7 +5,7 @@ use Rattle.circuits.proofs.Ways.{others, Passed}
 use Rattle.circuits.proofs.meet.Given as goal
 
 abbrev pub invariant-loop-seen : goal.invariant-loop-seen
-invariant-loop-seen l = (length l.seen ≡ length l.initial.seen) × Passed l.row l.n l.positions l.v l.seen l.u
+invariant-loop-seen l = (length l.seen ≡ length l.initial.seen) × Passed l.marks.row.now l.marks.n l.marks.positions l.v l.seen l.u
 
 abbrev pub decreases-loop-seen : goal.decreases-loop-seen
 decreases-loop-seen l = others l.seen

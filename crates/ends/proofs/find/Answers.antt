@@ -6,13 +6,13 @@ pub climb-requires : goal.climb-requires
 climb-requires c = find_fresh _ _ _ _ _ c.requires
 
 pub finish_low-requires : goal.finish_low-requires
-finish_low-requires c = find_low _ _ _ _ _ c.requires _ _ _ (climbs_low _ _ _ _ c.climb.ensures _ c.in-Low.is)
+finish_low-requires c = find_low _ _ _ _ _ c.requires _ _ _ (climbs_low _ _ _ _ c.climb.ensures _ c.in-Ok.is)
 
 pub copy-requires : goal.copy-requires
-copy-requires c = (none_fit _ _ _ _ _ c.requires _ _ _ _ (climbs_none _ _ _ _ c.climb.ensures _ _ c.in-None.is)).0
+copy-requires c = (none_fit _ _ _ _ _ c.requires _ _ _ _ (climbs_none _ _ _ _ c.climb.ensures _ c.in-Err.is)).0
 
-pub copy-requires-in-None : goal.copy-requires-in-None
-copy-requires-in-None c = (none_fit _ _ _ _ _ c.requires _ _ _ _ (climbs_none _ _ _ _ c.climb.ensures _ _ c.in-None.is)).1
+pub copy-requires-in-Err : goal.copy-requires-in-Err
+copy-requires-in-Err c = (none_fit _ _ _ _ _ c.requires _ _ _ _ (climbs_none _ _ _ _ c.climb.ensures _ c.in-Err.is)).1
 
-pub returns-in-None : goal.returns-in-None
-returns-in-None c = lacks _ _ _ c.requires.unrefused _ _ _ _ (climbs_none _ _ _ _ c.climb.ensures _ _ c.in-None.is).0 _ _ c.copy.ensures c.copy-in-None.ensures
+pub returns-in-Err : goal.returns-in-Err
+returns-in-Err c = lacks _ _ _ c.requires.unrefused _ _ _ (climbs_none _ _ _ _ c.climb.ensures _ c.in-Err.is).0 _ _ c.copy.ensures c.copy-in-Err.ensures

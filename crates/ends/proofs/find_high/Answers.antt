@@ -6,10 +6,10 @@ pub descend-requires : goal.descend-requires
 descend-requires c = high_overhead _ _ _ _ _ c.requires
 
 pub copy-requires : goal.copy-requires
-copy-requires c = high_fits _ _ _ _ _ c.requires _ _ _ (rests_high _ _ _ _ c.descend.ensures _ c.in-High.is)
+copy-requires c = high_fits _ _ _ _ _ c.requires _ _ _ (rests_high _ _ _ _ c.descend.ensures _ c.in_ok-high.was)
 
-pub returns-in-Open : goal.returns-in-Open
-returns-in-Open c = high_open _ _ _ _ _ c.requires (open_works _ _ _ _ c.descend.ensures c.in-Open.is)
+pub returns-in_err-high : goal.returns-in_err-high
+returns-in_err-high c = rw c.from_residual.ensures (high_open _ _ _ _ _ c.requires (open_works _ _ _ _ c.descend.ensures c.in_err-high.was))
 
-pub returns-in-High : goal.returns-in-High
-returns-in-High c = high_up_to _ _ _ _ _ c.requires _ _ _ (rests_high _ _ _ _ c.descend.ensures _ c.in-High.is) _ c.copy.ensures
+pub returns : goal.returns
+returns c = high_up_to _ _ _ _ _ c.requires _ _ _ (rests_high _ _ _ _ c.descend.ensures _ c.in_ok-high.was) _ c.copy.ensures

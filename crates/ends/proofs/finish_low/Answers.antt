@@ -5,8 +5,8 @@ use Rattle.ends.proofs.finish_low.Goals as goal
 pub copy-requires : goal.copy-requires
 copy-requires c = low_fits _ _ _ _ _ _ c.requires
 
-pub find_high-highest-requires : goal.find_high-highest-requires
-find_high-highest-requires c = low_high _ _ _ _ _ _ c.requires
+pub find_high-requires : goal.find_high-requires
+find_high-requires c = low_high _ _ _ _ _ _ c.requires
 
 pub returns : goal.returns
-returns c = finds _ _ _ _ _ _ c.requires _ c.copy.ensures c.find_high-highest.result _ c.find_high-highest.ensures
+returns c = finds _ _ _ _ _ _ c.requires _ c.copy.ensures c.find_high.result _ c.find_high.ensures

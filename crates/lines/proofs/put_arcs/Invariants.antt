@@ -1,10 +1,8 @@
--- `lines::put_arcs` meets its contract. The invariant: all arcs but the first k are left; the measure is how many that is.
-use Prim.Native.Nat.{◌+◌, ◌-◌, ◌*◌, ◌≤◌}
-use Rattle.lines.proofs.Turns.{ArcsLeft}
+-- `lines::put_arcs` meets its contract. The invariant: the lines of the arcs that the loop has met are added.
+use Rattle.std.proofs.Common.{◌+◌, ◌*◌, ◌≤◌}
+use Rattle.text.specs.Text.{Adds}
+use Rattle.lines.specs.Buffers.{times_lines}
 use Rattle.lines.proofs.put_arcs.Given as goal
 
-abbrev pub invariant-loop-k : goal.invariant-loop-k
-invariant-loop-k l = (l.k ≤ l.count) × (l.next ≤ l.at + l.k * 84) × ArcsLeft l.initial.out l.at l.circuit l.count l.k l.next l.out
-
-abbrev pub decreases-loop-k : goal.decreases-loop-k
-decreases-loop-k l = l.count - l.k
+abbrev pub invariant-loop-arc : goal.invariant-loop-arc
+invariant-loop-arc l = (l.text.at ≤ l.initial.text.at + l.arc-index * 84) × Adds l.initial.text (times_lines l.circuit 4 l.arc-index) l.text

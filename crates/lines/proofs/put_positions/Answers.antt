@@ -1,34 +1,34 @@
--- `lines::put_positions` meets its contract. The invariant: all positions but the first g are left; the measure is how many that is.
+-- `lines::put_positions` meets its contract. The invariant: the lines of the positions that the loop has met are added.
+use mathlib.Core.Path.{◌∙◌}
+use mathlib.Core.List.{[], ◌∷◌}
 use native.Mathlib.Omega.{arith}
-use native.Mathlib.Nat.{mul-le-mul_right, mul-le-mul_left}
-use Rattle.text.proofs.Puts.{part_length}
-use Rattle.lines.proofs.Turns.{positions_none, positions_turn, positions_all}
+use lib.ListN.{length-append}
+use Rattle.text.proofs.Puts.{nothing_adds}
+use Rattle.lines.proofs.Listed.{rows_more, met_none, met_row, met_more, met_all}
 use Rattle.lines.proofs.put_positions.Goals as goal
 
-pub loop-g-init : goal.loop-g-init
-loop-g-init c = let a = c.args in (omega arith, omega arith, positions_none a.out.now a.at a.plan.now a.n a.positions)
+pub loop-times-init : goal.loop-times-init
+unfolding Rattle.lines.specs.Buffers.times_lines
+loop-times-init c = let new = c.chunks_exact-times-items.ensures in
+    rw (c.into_iter-times-iterator.ensures.into_iter_gives) (new.size, rw (new.rest) (met_none _ _), omega arith, nothing_adds _)
 
-pub overflow_mul-g : goal.overflow_mul-g
-overflow_mul-g c = omega (arith, mul-le-mul_right c.args.n c.loop-g-test.true, mul-le-mul_left c.args.positions c.requires.2, c.requires)
+pub put_numbers-requires : goal.put_numbers-requires
+put_numbers-requires c = let i = c.loop-times.invariant in
+    let s = c.in-Some.ensures.steps in
+    (omega (arith, i.2, i.1.inside, c.requires), omega (arith, s.1.1, i.0, c.requires))
 
-pub put_times-next-requires : goal.put_times-next-requires
-put_times-next-requires c = (omega (arith, c.loop-g-test.true, c.loop-g.invariant.1, c.requires), c.requires.1, c.requires.2, omega (arith, mul-le-mul_right c.args.n c.loop-g-test.true, c.requires.4))
-
-pub overflow_add-g : goal.overflow_add-g
-overflow_add-g c = omega (arith, c.loop-g-test.true, c.requires.3)
-
-pub loop-g-smaller : goal.loop-g-smaller
-loop-g-smaller c = omega (arith, c.loop-g-test.true)
-
-pub loop-g-preserved : goal.loop-g-preserved
-loop-g-preserved c = let a = c.args in
-    let h = c.loop-g-test.true in
-    let i = c.loop-g.invariant in
-    let e = c.put_times-next.ensures in
-    (omega (arith, h), omega (arith, i.1, e.0), positions_turn a.out.now a.at a.plan.now a.n a.positions c.loop-g.g _ _ _ _ h i.2 e.1)
-
-pub shape_of-out : goal.shape_of-out
-shape_of-out c = let a = c.args in part_length a.out.now a.at _ _ _ _ c.loop-g.invariant.2
+pub loop-times-preserved : goal.loop-times-preserved
+loop-times-preserved c = let i = c.loop-times.invariant in
+    let s = c.in-Some.ensures.steps in
+    let e = c.put_numbers.ensures in
+    let x = c.in-Some.times.now in
+    let long = s.1.1 ∙ i.0 in
+    rw (length-append c.loop-times.yielded (c.in-Some.times ∷ [])) (
+      s.0 ∙ i.0,
+      met_more i.1 x _ s.1.0 long,
+      omega (arith, e.short, i.2, long),
+      rows_more _ _ _ i.3 (rw (← met_row i.1 x _ s.1.0 long) e.adds),
+    )
 
 pub returns : goal.returns
-returns c = let a = c.args in positions_all a.out.now a.at a.plan.now a.n a.positions c.loop-g.g _ _ c.loop-g-test.false c.loop-g.invariant.2
+returns c = let i = c.loop-times.invariant in rw (met_all i.1 (omega (arith, c.in-None.ensures.steps, i.0))) i.3

@@ -1,12 +1,9 @@
 -- `numbers::put_in` meets its contract: the first group is stored, and the rest is written after it; the groups that are left fall.
 use Rattle.numbers.specs.Groups.{grouped}
 use Rattle.numbers.proofs.Writing.{sets_out, put_one, put_more}
-use mathlib.Core.Path.{sym, ap, ◌∙◌}
+use mathlib.Core.Path.{sym, ◌∙◌}
 use native.Mathlib.Omega.{arith}
-use lib.ListN.{set, length-set}
-use lib.Seq.{sets}
-use Prim.Native.Nat.{◌+◌, ◌-◌, ◌/◌}
-use Prim.Native.Nat.{ℕ}
+use lib.ListN.{length-set}
 use Rattle.numbers.proofs.+put_in.Goals as goal
 
 pub returns-then-left-eq0 : goal.returns-then-left-eq0
@@ -18,7 +15,7 @@ returns-then-out-at t c = let a = c.args in sym (sets_out a.out.now a.at (groupe
 
 pub returns-then-value-lt128 : goal.returns-then-value-lt128
 returns-then-value-lt128 t c = let a = c.args in
-    ap (λ (b : ℕ). set a.out.now a.at b) c.narrow.ensures ∙ put_one a.out.now a.at a.left a.value c.if-left-eq0.false c.if-value-lt128.true
+    put_one a.out.now a.at a.left a.value c.if-left-eq0.false c.if-value-lt128.true
 
 pub overflow_sub-left : goal.overflow_sub-left
 overflow_sub-left t c = omega (arith, c.if-left-eq0.false)
@@ -32,5 +29,4 @@ shape_of-out t c = c.put_in.auto.out ∙ simp length-set
 pub returns : goal.returns
 returns t c = let a = c.args in
     c.put_in.ensures
-    ∙ ap (λ (b : ℕ). sets (set a.out.now a.at b) (a.at + 1) (grouped (a.left - 1) (a.value / 128))) c.narrow-2.ensures
     ∙ put_more a.out.now a.at a.left a.value c.if-left-eq0.false c.if-value-lt128.false

@@ -1,27 +1,65 @@
--- `reader::read_into` meets its contract: n, m and V, and then the rest.
-use Rattle.sheet.specs.File.{Part, got, counts, counts_at, sheet_in}
-use Rattle.reader.specs.Steps.{Fills, head_part}
-use Rattle.tables.specs.Sheets.{Sheet}
+-- `reader::read_into` meets its contract: n, m and V, then the schedule, and then the tables.
+use Rattle.sheet.specs.File.{sheet_in, sheet_after}
+use Rattle.reader.specs.Steps.{head_part}
+use Rattle.tables.specs.Sheets.{sheet}
+use Rattle.records.proofs.Walking.{walked, unwalked}
 use Rattle.sheet.proofs.Following.{then_value, then_refused}
 use Rattle.sheet.proofs.Sheets.{counted}
-use Rattle.reader.proofs.Filling.{fills_refused}
-use mathlib.Core.Path.{◌≡◌, sym, ap, subst, ◌∙◌}
+use Rattle.numbers.proofs.Reasons.{handed_on}
+use Rattle.reader.proofs.Filling.{fills_refused, fills_done}
+use mathlib.Core.Path.{sym, ap, ◌∙◌}
+use mathlib.Core.List.{List}
+use Prim.Native.Nat.{ℕ}
+use lib.Seq.{sets}
+use lib.IntN.{ℤ}
 use Rattle.reader.proofs.read_into.Goals as goal
 
-pub read_rest-requires : goal.read_rest-requires
-read_rest-requires c =
-    let head : counts_at c.args.file.now 0 ≡ got (counts c.in-Counts.n c.in-Counts.m c.in-Counts.positions) c.in-Counts.next = sym c.read_head.ensures ∙ ap head_part c.in-Counts.is in
-    let k = counted _ _ _ _ head in (k.few_events, k.some_modes, k.few_modes)
+-- what is put into a list
+abbrev values : List ℤ → List ℤ → List ℤ
+values was l = sets was 0 l
 
-pub returns-in-Counts : goal.returns-in-Counts
-unfolding sheet_in
-returns-in-Counts c =
-    let head : counts_at c.args.file.now 0 ≡ got (counts c.in-Counts.n c.in-Counts.m c.in-Counts.positions) c.in-Counts.next = sym c.read_head.ensures ∙ ap head_part c.in-Counts.is in
-    let a = c.args in
-    subst (λ (x : Part Sheet). Fills x a.tables.now a.schedule.now c.read_rest.result c.read_rest.new.tables c.read_rest.new.schedule)
-    (sym (then_value _ _ _ _ head)) c.read_rest.ensures
+abbrev modes : List ℕ → List ℕ → List ℕ
+modes was l = sets was 0 l
 
-pub returns-in-Refused : goal.returns-in-Refused
+pub returns-in_err-counts : goal.returns-in_err-counts
 unfolding sheet_in
-returns-in-Refused c = let a = c.args in
-    fills_refused (sheet_in a.file.now) a.tables.now a.schedule.now _ _ _ (then_refused _ _ _ (sym c.read_head.ensures ∙ ap head_part c.in-Refused.is))
+returns-in_err-counts c = let a = c.args in
+    rw (handed_on _ _ c.from_residual.ensures.1)
+    (fills_refused (sheet_in a.file.now) a.tables.now a.schedule.now _ _ _ (then_refused _ _ _ (sym c.read_head.ensures ∙ ap head_part c.in_err-counts.was)))
+
+pub read_schedule-requires : goal.read_schedule-requires
+read_schedule-requires c =
+    let k = counted _ _ _ _ (sym c.read_head.ensures ∙ ap head_part c.in_ok-counts.was) in (k.some_modes, k.few_modes)
+
+pub returns-in_err-next : goal.returns-in_err-next
+unfolding sheet_in sheet_after
+returns-in_err-next c = let a = c.args in
+    rw (handed_on _ _ c.from_residual-in_err-next.ensures.1)
+    (fills_refused (sheet_in a.file.now) a.tables.now a.schedule.now _ _ _
+    (then_value _ _ _ _ (sym c.read_head.ensures ∙ ap head_part c.in_ok-counts.was)
+    ∙ then_refused _ _ _ (unwalked modes _ _ _ _ _ c.in_err-next.was c.read_schedule.ensures)))
+
+pub read_tables-requires : goal.read_tables-requires
+read_tables-requires c =
+    let k = counted _ _ _ _ (sym c.read_head.ensures ∙ ap head_part c.in_ok-counts.was) in (k.few_events, k.few_modes)
+
+pub returns-in_err-read_tables : goal.returns-in_err-read_tables
+unfolding sheet_in sheet_after
+returns-in_err-read_tables c = let a = c.args in
+    let k = walked modes _ _ _ _ _ c.in_ok-next.was c.read_schedule.ensures in
+    rw (handed_on _ _ c.from_residual-in_err-read_tables.ensures.1)
+    (fills_refused (sheet_in a.file.now) a.tables.now a.schedule.now _ _ _
+    (then_value _ _ _ _ (sym c.read_head.ensures ∙ ap head_part c.in_ok-counts.was)
+    ∙ then_value _ _ _ _ k.is
+    ∙ then_refused _ _ _ (unwalked values _ _ _ _ _ c.in_err-read_tables.was c.read_tables.ensures)))
+
+pub returns : goal.returns
+unfolding sheet_in sheet_after
+returns c = let a = c.args in
+    let s = c.in_ok-counts.counts in
+    let k = walked modes _ _ _ _ _ c.in_ok-next.was c.read_schedule.ensures in
+    let t = walked values _ _ _ _ _ c.in_ok-read_tables.was c.read_tables.ensures in
+    fills_done (sheet_in a.file.now) a.tables.now a.schedule.now _ _ (sheet s.n s.m s.positions t.thing k.thing) _
+    (then_value _ _ _ _ (sym c.read_head.ensures ∙ ap head_part c.in_ok-counts.was)
+    ∙ then_value _ _ _ _ k.is
+    ∙ then_value _ _ _ _ t.is) t.after k.after

@@ -1,5 +1,6 @@
 -- `reader::read_tables` meets its contract: the modes, and then the end of the file.
 use Rattle.numbers.specs.Groups.{bad}
+use Rattle.numbers.proofs.Reasons.{handed_on}
 use Rattle.sheet.specs.File.{got, refused, tables_of, ended, tables_at}
 use Rattle.records.proofs.Walking.{walked, unwalked, stopped, arrived}
 use Rattle.sheet.proofs.Following.{then_value, then_refused}
@@ -27,19 +28,20 @@ module _ (file : List ℕ) (tables : List ℤ) (next : ℕ) where
 abbrev all : List ℤ → List ℤ → List ℤ
 all was values = sets was 0 values
 
-pub returns-then-next-file : goal.returns-then-next-file
+pub returns-in_err-next : goal.returns-in_err-next
 unfolding tables_at
-returns-then-next-file c = let a = c.args in
-    let k = walked (store_from a.n 0) _ _ _ _ _ c.in-At.is c.read_modes.ensures in
-    arrived all (tables_at a.file.now a.n a.m a.at) a.tables.now _ (tables_of a.n k.thing) _ (then_value _ _ _ _ k.is ∙ ended-yes _ _ _ c.if-next-file.true) k.after
+returns-in_err-next c = let a = c.args in
+    rw (handed_on _ _ c.from_residual.ensures.1)
+    (stopped all (tables_at a.file.now a.n a.m a.at) a.tables.now _ _ (then_refused _ _ _ (unwalked (store_from a.n 0) _ _ _ _ _ c.in_err-next.was c.read_modes.ensures)))
 
-pub returns-else-next-file : goal.returns-else-next-file
+pub returns-then-has_surplus : goal.returns-then-has_surplus
 unfolding tables_at
-returns-else-next-file c = let a = c.args in
-    let k = walked (store_from a.n 0) _ _ _ _ _ c.in-At.is c.read_modes.ensures in
-    rw c.bad.ensures (stopped all (tables_at a.file.now a.n a.m a.at) a.tables.now _ _ (then_value _ _ _ _ k.is ∙ ended-no _ _ _ c.if-next-file.false))
+returns-then-has_surplus c = let a = c.args in
+    let k = walked (store_from a.n 0) _ _ _ _ _ c.in_ok-next.was c.read_modes.ensures in
+    stopped all (tables_at a.file.now a.n a.m a.at) a.tables.now _ _ (then_value _ _ _ _ k.is ∙ ended-no _ _ _ c.if-has_surplus.true)
 
-pub returns-in-Refused : goal.returns-in-Refused
+pub returns : goal.returns
 unfolding tables_at
-returns-in-Refused c = let a = c.args in
-    stopped all (tables_at a.file.now a.n a.m a.at) a.tables.now _ _ (then_refused _ _ _ (unwalked (store_from a.n 0) _ _ _ _ _ c.in-Refused.is c.read_modes.ensures))
+returns c = let a = c.args in
+    let k = walked (store_from a.n 0) _ _ _ _ _ c.in_ok-next.was c.read_modes.ensures in
+    arrived all (tables_at a.file.now a.n a.m a.at) a.tables.now _ (tables_of a.n k.thing) _ (then_value _ _ _ _ k.is ∙ ended-yes _ _ _ c.if-has_surplus.false) k.after

@@ -1,18 +1,24 @@
 -- `records::number_within` meets its contract: by the comparison.
 use Rattle.records.specs.Steps.{between}
 use Rattle.sheet.proofs.Numbers.{tested_refused, tested_yes, tested_no}
-use mathlib.Core.Path.{sym, ◌∙◌}
+use Rattle.std.proofs.Common.{rules}
+use mathlib.Core.Path.{◌≡◌, sym, ap, ◌∙◌}
 use Rattle.numbers.specs.Groups.{number_at}
+use Rattle.numbers.specs.Refusals.{number_of, read}
+use Rattle.numbers.proofs.Reasons.{handed_on}
 use Rattle.records.proofs.number_within.Goals as goal
 
-pub returns-in_default : goal.returns-in_default
-returns-in_default c = let a = c.args in
-    c.in_default.is ∙ sym (tested_refused (between a.least a.most) a.number (number_at a.file.now a.at) c.in_default.field-0 (sym c.number_at-read.ensures ∙ c.in_default.is))
+pub returns-in_err-number : goal.returns-in_err-number
+returns-in_err-number c = let a = c.args in
+    ap read (handed_on _ _ c.from_residual.ensures.1)
+    ∙ sym (tested_refused (between a.least a.most) (number_of a.reason) (number_at a.file.now a.at) _ (sym c.number_at.ensures ∙ ap read c.in_err-number.was))
 
-pub returns-then-not-is_between : goal.returns-then-not-is_between
-returns-then-not-is_between c = let a = c.args in
-    rw c.bad.ensures (sym (tested_no (between a.least a.most) a.number (number_at a.file.now a.at) c.in-Value.value c.in-Value.began c.in-Value.next (sym c.number_at-read.ensures ∙ c.in-Value.is) (sym c.is_between.ensures ∙ c.if-not-is_between.true)))
+pub returns-then-not-is_within : goal.returns-then-not-is_within
+returns-then-not-is_within c = let a = c.args in
+    let within : c.contains-is_within.result ≡ between a.least a.most c.in_ok-number.number.value = search rules in
+    sym (tested_no (between a.least a.most) (number_of a.reason) (number_at a.file.now a.at) _ _ _ (sym c.number_at.ensures ∙ ap read c.in_ok-number.was) (sym within ∙ c.if-not-is_within.true))
 
 pub returns : goal.returns
 returns c = let a = c.args in
-    sym (tested_yes (between a.least a.most) a.number (number_at a.file.now a.at) c.in-Value.value c.in-Value.next (sym c.number_at-read.ensures ∙ c.in-Value.is) (sym c.is_between.ensures ∙ c.if-not-is_between.false))
+    let within : c.contains-is_within.result ≡ between a.least a.most c.in_ok-number.number.value = search rules in
+    sym (tested_yes (between a.least a.most) (number_of a.reason) (number_at a.file.now a.at) _ _ (sym c.number_at.ensures ∙ ap read c.in_ok-number.was) (sym within ∙ c.if-not-is_within.false))

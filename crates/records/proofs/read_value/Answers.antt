@@ -2,16 +2,17 @@
 use mathlib.Core.Path.{◌≡◌, sym, ap, ◌∙◌}
 use mathlib.Core.Bool.{true, false}
 use Prim.Native.Nat.{ℕ, ◌≤◌, ◌<◌}
-use native.Mathlib.Omega.{arith}
 use borrow.Author.Tests.{le-leb, lt-leb}
 use lib.IntN.{ℤ}
-use Rattle.numbers.specs.Groups.{bad, number_at}
+use Rattle.numbers.specs.Groups.{bad}
+use Rattle.numbers.specs.Refusals.{read}
+use Rattle.numbers.proofs.Reasons.{handed_on}
+use Rattle.records.specs.Steps.{found_part}
 use Rattle.numbers.specs.Signs.{decoded}
-use Rattle.numbers.specs.declared.Number.TheVariants.{Value}
 use Rattle.tables.specs.Sheets.{in_limit}
 use Rattle.sheet.specs.File.{got, refused, placed, value_at, rising}
 use Rattle.sheet.proofs.Numbers.{after_value, after_refused, tested_refused, tested_yes, tested_no}
-use Rattle.records.proofs.Ranges.{limits, up_to, refused_is}
+use Rattle.records.proofs.Ranges.{limits, up_to}
 use Rattle.records.proofs.read_value.Goals as goal
 
 -- the limits as the file has them
@@ -31,30 +32,24 @@ module _ (start low p : ℕ) (v : ℤ) (next : ℕ) where
   unfolding rising
   rising-no h = rw (lt-leb low p h)
 
-pub returns-in_default : goal.returns-in_default
+pub returns-in_err-limit : goal.returns-in_err-limit
 unfolding value_at
-returns-in_default c = ap refused (refused_is _ _ _ c.refusal.ensures c.in_default.is)
-    ∙ sym (after_refused _ _ _ (tested_refused (λ u. in_limit (decoded u)) 6 _ _ (sym c.number_at-read.ensures ∙ c.in_default.is)))
+returns-in_err-limit c = ap found_part (handed_on _ _ c.from_residual.ensures.1)
+    ∙ sym (after_refused _ _ _ (tested_refused (λ u. in_limit (decoded u)) 6 _ _ (sym c.number_at.ensures ∙ ap read c.in_err-limit.was)))
 
 pub returns-then-is_past : goal.returns-then-is_past
 unfolding value_at
 returns-then-is_past c =
-    let code_at : number_at c.args.file.now c.args.at ≡ Value c.in-Value.code c.in-Value.fourth c.in-Value.next = sym c.number_at-read.ensures ∙ c.in-Value.is in
-    rw c.bad.ensures (sym (after_refused _ _ _ (tested_no (λ u. in_limit (decoded u)) 6 _ _ _ _ code_at (past_limit c.in-Value.code c.if-is_past.true))))
+    sym (after_refused _ _ _ (tested_no (λ u. in_limit (decoded u)) 6 _ _ _ _ (sym c.number_at.ensures ∙ ap read c.in_ok-limit.was) (past_limit c.in_ok-limit.limit.value c.if-is_past.true)))
 
 pub returns-then-is_behind : goal.returns-then-is_behind
 unfolding value_at
 returns-then-is_behind c =
-    let code_at : number_at c.args.file.now c.args.at ≡ Value c.in-Value.code c.in-Value.fourth c.in-Value.next = sym c.number_at-read.ensures ∙ c.in-Value.is in
-    let left : value_at c.args.file.now c.args.start c.args.low c.args.place c.args.at ≡ rising c.args.start c.args.low c.args.place (decoded c.in-Value.code) c.in-Value.next = after_value _ _ _ _ (tested_yes (λ u. in_limit (decoded u)) 6 _ _ _ code_at (within_limit c.in-Value.code c.if-is_past.false)) in
-    rw c.bad-then-is_behind.ensures (sym (left ∙ rising-no _ _ _ _ _ c.if-is_behind.true))
-
-pub overflow_cast-result : goal.overflow_cast-result
-overflow_cast-result c = omega (arith, c.if-is_past.false)
+    sym (after_value _ _ _ _ (tested_yes (λ u. in_limit (decoded u)) 6 _ _ _ (sym c.number_at.ensures ∙ ap read c.in_ok-limit.was) (within_limit c.in_ok-limit.limit.value c.if-is_past.false))
+    ∙ rising-no _ _ _ _ _ c.if-is_behind.true)
 
 pub returns : goal.returns
 unfolding value_at
 returns c =
-    let code_at : number_at c.args.file.now c.args.at ≡ Value c.in-Value.code c.in-Value.fourth c.in-Value.next = sym c.number_at-read.ensures ∙ c.in-Value.is in
-    let left : value_at c.args.file.now c.args.start c.args.low c.args.place c.args.at ≡ rising c.args.start c.args.low c.args.place (decoded c.in-Value.code) c.in-Value.next = after_value _ _ _ _ (tested_yes (λ u. in_limit (decoded u)) 6 _ _ _ code_at (within_limit c.in-Value.code c.if-is_past.false)) in
-    sym (left ∙ rising-yes _ _ _ _ _ c.if-is_behind.false)
+    sym (after_value _ _ _ _ (tested_yes (λ u. in_limit (decoded u)) 6 _ _ _ (sym c.number_at.ensures ∙ ap read c.in_ok-limit.was) (within_limit c.in_ok-limit.limit.value c.if-is_past.false))
+    ∙ rising-yes _ _ _ _ _ c.if-is_behind.false)

@@ -1,150 +1,72 @@
 -- `records::read_window` meets its contract: each number is what its definition tests, and the three give a place in the part.
 use mathlib.Core.Path.{◌≡◌, sym, ap, ◌∙◌}
+use Prim.Native.Nat.{ℕ, ◌≤◌}
 use native.Mathlib.Omega.{arith}
 use borrow.Author.Tests.{leb-true}
 use lib.Dec.{leb}
-use Rattle.numbers.specs.Groups.{number_at}
-use Rattle.numbers.specs.declared.Number.TheVariants.{Value}
+use Rattle.numbers.specs.Groups.{Number, Value}
+use Rattle.numbers.specs.Refusals.{read}
+use Rattle.numbers.proofs.Reasons.{handed_on}
 use Rattle.tables.specs.Sheets.{within}
 use Rattle.tables.proofs.Laws.{within_is}
-use Rattle.sheet.specs.File.{refused, record_at, tested}
+use Rattle.sheet.specs.File.{record_at, tested}
 use Rattle.sheet.proofs.Numbers.{after_value, after_refused, tested_value}
-use Rattle.records.proofs.Ranges.{refused_is}
-use Rattle.sheet.proofs.Places.{Fit, Steps, steps_fit}
+use Rattle.sheet.proofs.Places.{Steps, steps_fit}
+use Rattle.records.specs.Steps.{found_part}
 use Rattle.records.proofs.read_window.Goals as goal
 
-pub returns-in_default : goal.returns-in_default
-unfolding record_at
-returns-in_default c = ap refused (refused_is _ _ _ c.refusal.ensures c.in_default.is)
-    ∙ sym (after_refused _ _ _ (sym c.kind_at-first.ensures ∙ c.in_default.is))
+-- three numbers that passed their tests give a place
+steps : (x y z : Number) (n kind to from : ℕ) {a b d e f g : ℕ} → tested (λ kind. leb kind 3) 6 x ≡ Value kind a b → tested (within n) 6 y ≡ Value to d e
+    → tested (within n) 6 z ≡ Value from f g → n ≤ 12 → Steps n kind to from
+steps x y z n kind to from p q r h =
+    let t = within_is n to (tested_value _ _ _ _ _ q).1 in
+    let f = within_is n from (tested_value _ _ _ _ _ r).1 in
+    steps_fit _ _ _ _ (record {
+      kinds = leb-true _ _ (tested_value _ _ _ _ _ p).1;
+      some_to = t.0;
+      few_to = t.1;
+      some_from = f.0;
+      few_from = f.1;
+    }) h
 
-pub returns-in_default-second : goal.returns-in_default-second
+pub returns-in_err-kind : goal.returns-in_err-kind
 unfolding record_at
-returns-in_default-second c =
-    let kind_is : tested (λ kind. leb kind 3) 6 (number_at c.args.file.now c.args.at) ≡ Value c.in-Value.kind c.in-Value.at c.in-Value.a = sym c.kind_at-first.ensures ∙ c.in-Value.is in
-    ap refused (refused_is _ _ _ c.refusal-in_default-second.ensures c.in_default-second.is)
-    ∙ sym (after_value _ _ _ _ kind_is ∙ after_refused _ _ _ (sym c.number_within-second.ensures ∙ c.in_default-second.is))
+returns-in_err-kind c = ap found_part (handed_on _ _ c.from_residual.ensures.1) ∙ sym (after_refused _ _ _ (sym c.kind_at.ensures ∙ ap read c.in_err-kind.was))
 
-pub returns-in_default-third : goal.returns-in_default-third
+pub returns-in_err-to : goal.returns-in_err-to
 unfolding record_at
-returns-in_default-third c =
-    let kind_is : tested (λ kind. leb kind 3) 6 (number_at c.args.file.now c.args.at) ≡ Value c.in-Value.kind c.in-Value.at c.in-Value.a = sym c.kind_at-first.ensures ∙ c.in-Value.is in
-    let to_is : tested (within c.args.n) 6 (number_at c.args.file.now c.in-Value.a) ≡ Value c.in-Value-second.to c.in-Value-second.at c.in-Value-second.b = sym c.number_within-second.ensures ∙ c.in-Value-second.is in
-    ap refused (refused_is _ _ _ c.refusal-in_default-third.ensures c.in_default-third.is)
-    ∙ sym (after_value _ _ _ _ kind_is ∙ after_value _ _ _ _ to_is ∙ after_refused _ _ _ (sym c.number_within-third.ensures ∙ c.in_default-third.is))
+returns-in_err-to c = ap found_part (handed_on _ _ c.from_residual-in_err-to.ensures.1)
+    ∙ sym (after_value _ _ _ _ (sym c.kind_at.ensures ∙ ap read c.in_ok-kind.was) ∙ after_refused _ _ _ (sym c.number_within.ensures ∙ ap read c.in_err-to.was))
+
+pub returns-in_err-from : goal.returns-in_err-from
+unfolding record_at
+returns-in_err-from c = ap found_part (handed_on _ _ c.from_residual-in_err-from.ensures.1)
+    ∙ sym (after_value _ _ _ _ (sym c.kind_at.ensures ∙ ap read c.in_ok-kind.was)
+    ∙ after_value _ _ _ _ (sym c.number_within.ensures ∙ ap read c.in_ok-to.was)
+    ∙ after_refused _ _ _ (sym c.number_within-2.ensures ∙ ap read c.in_err-from.was))
 
 pub overflow_mul-place : goal.overflow_mul-place
-overflow_mul-place c =
-    let kind_is : tested (λ kind. leb kind 3) 6 (number_at c.args.file.now c.args.at) ≡ Value c.in-Value.kind c.in-Value.at c.in-Value.a = sym c.kind_at-first.ensures ∙ c.in-Value.is in
-    let to_is : tested (within c.args.n) 6 (number_at c.args.file.now c.in-Value.a) ≡ Value c.in-Value-second.to c.in-Value-second.at c.in-Value-second.b = sym c.number_within-second.ensures ∙ c.in-Value-second.is in
-    let from_is : tested (within c.args.n) 6 (number_at c.args.file.now c.in-Value-second.b) ≡ Value c.in-Value-third.from c.in-Value-third.at c.in-Value-third.c = sym c.number_within-third.ensures ∙ c.in-Value-third.is in
-    let fit : Fit c.args.n c.in-Value.kind c.in-Value-second.to c.in-Value-third.from = let n = c.args.n in
-    let t = within_is n c.in-Value-second.to (tested_value _ _ _ _ _ to_is).1 in
-    let f = within_is n c.in-Value-third.from (tested_value _ _ _ _ _ from_is).1 in
-    record {
-      kinds = leb-true _ _ (tested_value _ _ _ _ _ kind_is).1;
-      some_to = t.0;
-      few_to = t.1;
-      some_from = f.0;
-      few_from = f.1;
-    } in
-    let steps : Steps c.args.n c.in-Value.kind c.in-Value-second.to c.in-Value-third.from = steps_fit _ _ _ _ fit c.requires in
-    omega (arith, steps)
+overflow_mul-place c = omega (arith, steps _ _ _ c.args.n _ _ _ (sym c.kind_at.ensures ∙ ap read c.in_ok-kind.was) (sym c.number_within.ensures ∙ ap read c.in_ok-to.was) (sym c.number_within-2.ensures ∙ ap read c.in_ok-from.was) c.requires)
 
 pub overflow_sub-place : goal.overflow_sub-place
-overflow_sub-place c =
-    let kind_is : tested (λ kind. leb kind 3) 6 (number_at c.args.file.now c.args.at) ≡ Value c.in-Value.kind c.in-Value.at c.in-Value.a = sym c.kind_at-first.ensures ∙ c.in-Value.is in
-    let to_is : tested (within c.args.n) 6 (number_at c.args.file.now c.in-Value.a) ≡ Value c.in-Value-second.to c.in-Value-second.at c.in-Value-second.b = sym c.number_within-second.ensures ∙ c.in-Value-second.is in
-    let from_is : tested (within c.args.n) 6 (number_at c.args.file.now c.in-Value-second.b) ≡ Value c.in-Value-third.from c.in-Value-third.at c.in-Value-third.c = sym c.number_within-third.ensures ∙ c.in-Value-third.is in
-    let fit : Fit c.args.n c.in-Value.kind c.in-Value-second.to c.in-Value-third.from = let n = c.args.n in
-    let t = within_is n c.in-Value-second.to (tested_value _ _ _ _ _ to_is).1 in
-    let f = within_is n c.in-Value-third.from (tested_value _ _ _ _ _ from_is).1 in
-    record {
-      kinds = leb-true _ _ (tested_value _ _ _ _ _ kind_is).1;
-      some_to = t.0;
-      few_to = t.1;
-      some_from = f.0;
-      few_from = f.1;
-    } in
-    let steps : Steps c.args.n c.in-Value.kind c.in-Value-second.to c.in-Value-third.from = steps_fit _ _ _ _ fit c.requires in
-    omega (arith, steps)
+overflow_sub-place c = omega (arith, steps _ _ _ c.args.n _ _ _ (sym c.kind_at.ensures ∙ ap read c.in_ok-kind.was) (sym c.number_within.ensures ∙ ap read c.in_ok-to.was) (sym c.number_within-2.ensures ∙ ap read c.in_ok-from.was) c.requires)
 
 pub overflow_add-place : goal.overflow_add-place
-overflow_add-place c =
-    let kind_is : tested (λ kind. leb kind 3) 6 (number_at c.args.file.now c.args.at) ≡ Value c.in-Value.kind c.in-Value.at c.in-Value.a = sym c.kind_at-first.ensures ∙ c.in-Value.is in
-    let to_is : tested (within c.args.n) 6 (number_at c.args.file.now c.in-Value.a) ≡ Value c.in-Value-second.to c.in-Value-second.at c.in-Value-second.b = sym c.number_within-second.ensures ∙ c.in-Value-second.is in
-    let from_is : tested (within c.args.n) 6 (number_at c.args.file.now c.in-Value-second.b) ≡ Value c.in-Value-third.from c.in-Value-third.at c.in-Value-third.c = sym c.number_within-third.ensures ∙ c.in-Value-third.is in
-    let fit : Fit c.args.n c.in-Value.kind c.in-Value-second.to c.in-Value-third.from = let n = c.args.n in
-    let t = within_is n c.in-Value-second.to (tested_value _ _ _ _ _ to_is).1 in
-    let f = within_is n c.in-Value-third.from (tested_value _ _ _ _ _ from_is).1 in
-    record {
-      kinds = leb-true _ _ (tested_value _ _ _ _ _ kind_is).1;
-      some_to = t.0;
-      few_to = t.1;
-      some_from = f.0;
-      few_from = f.1;
-    } in
-    let steps : Steps c.args.n c.in-Value.kind c.in-Value-second.to c.in-Value-third.from = steps_fit _ _ _ _ fit c.requires in
-    omega (arith, steps)
+overflow_add-place c = omega (arith, steps _ _ _ c.args.n _ _ _ (sym c.kind_at.ensures ∙ ap read c.in_ok-kind.was) (sym c.number_within.ensures ∙ ap read c.in_ok-to.was) (sym c.number_within-2.ensures ∙ ap read c.in_ok-from.was) c.requires)
 
 pub overflow_mul-place-2 : goal.overflow_mul-place-2
-overflow_mul-place-2 c =
-    let kind_is : tested (λ kind. leb kind 3) 6 (number_at c.args.file.now c.args.at) ≡ Value c.in-Value.kind c.in-Value.at c.in-Value.a = sym c.kind_at-first.ensures ∙ c.in-Value.is in
-    let to_is : tested (within c.args.n) 6 (number_at c.args.file.now c.in-Value.a) ≡ Value c.in-Value-second.to c.in-Value-second.at c.in-Value-second.b = sym c.number_within-second.ensures ∙ c.in-Value-second.is in
-    let from_is : tested (within c.args.n) 6 (number_at c.args.file.now c.in-Value-second.b) ≡ Value c.in-Value-third.from c.in-Value-third.at c.in-Value-third.c = sym c.number_within-third.ensures ∙ c.in-Value-third.is in
-    let fit : Fit c.args.n c.in-Value.kind c.in-Value-second.to c.in-Value-third.from = let n = c.args.n in
-    let t = within_is n c.in-Value-second.to (tested_value _ _ _ _ _ to_is).1 in
-    let f = within_is n c.in-Value-third.from (tested_value _ _ _ _ _ from_is).1 in
-    record {
-      kinds = leb-true _ _ (tested_value _ _ _ _ _ kind_is).1;
-      some_to = t.0;
-      few_to = t.1;
-      some_from = f.0;
-      few_from = f.1;
-    } in
-    let steps : Steps c.args.n c.in-Value.kind c.in-Value-second.to c.in-Value-third.from = steps_fit _ _ _ _ fit c.requires in
-    omega (arith, steps)
+overflow_mul-place-2 c = omega (arith, steps _ _ _ c.args.n _ _ _ (sym c.kind_at.ensures ∙ ap read c.in_ok-kind.was) (sym c.number_within.ensures ∙ ap read c.in_ok-to.was) (sym c.number_within-2.ensures ∙ ap read c.in_ok-from.was) c.requires)
 
 pub overflow_sub-place-2 : goal.overflow_sub-place-2
-overflow_sub-place-2 c =
-    let kind_is : tested (λ kind. leb kind 3) 6 (number_at c.args.file.now c.args.at) ≡ Value c.in-Value.kind c.in-Value.at c.in-Value.a = sym c.kind_at-first.ensures ∙ c.in-Value.is in
-    let to_is : tested (within c.args.n) 6 (number_at c.args.file.now c.in-Value.a) ≡ Value c.in-Value-second.to c.in-Value-second.at c.in-Value-second.b = sym c.number_within-second.ensures ∙ c.in-Value-second.is in
-    let from_is : tested (within c.args.n) 6 (number_at c.args.file.now c.in-Value-second.b) ≡ Value c.in-Value-third.from c.in-Value-third.at c.in-Value-third.c = sym c.number_within-third.ensures ∙ c.in-Value-third.is in
-    let fit : Fit c.args.n c.in-Value.kind c.in-Value-second.to c.in-Value-third.from = let n = c.args.n in
-    let t = within_is n c.in-Value-second.to (tested_value _ _ _ _ _ to_is).1 in
-    let f = within_is n c.in-Value-third.from (tested_value _ _ _ _ _ from_is).1 in
-    record {
-      kinds = leb-true _ _ (tested_value _ _ _ _ _ kind_is).1;
-      some_to = t.0;
-      few_to = t.1;
-      some_from = f.0;
-      few_from = f.1;
-    } in
-    let steps : Steps c.args.n c.in-Value.kind c.in-Value-second.to c.in-Value-third.from = steps_fit _ _ _ _ fit c.requires in
-    omega (arith, steps)
+overflow_sub-place-2 c = omega (arith, steps _ _ _ c.args.n _ _ _ (sym c.kind_at.ensures ∙ ap read c.in_ok-kind.was) (sym c.number_within.ensures ∙ ap read c.in_ok-to.was) (sym c.number_within-2.ensures ∙ ap read c.in_ok-from.was) c.requires)
 
 pub overflow_add-place-2 : goal.overflow_add-place-2
-overflow_add-place-2 c =
-    let kind_is : tested (λ kind. leb kind 3) 6 (number_at c.args.file.now c.args.at) ≡ Value c.in-Value.kind c.in-Value.at c.in-Value.a = sym c.kind_at-first.ensures ∙ c.in-Value.is in
-    let to_is : tested (within c.args.n) 6 (number_at c.args.file.now c.in-Value.a) ≡ Value c.in-Value-second.to c.in-Value-second.at c.in-Value-second.b = sym c.number_within-second.ensures ∙ c.in-Value-second.is in
-    let from_is : tested (within c.args.n) 6 (number_at c.args.file.now c.in-Value-second.b) ≡ Value c.in-Value-third.from c.in-Value-third.at c.in-Value-third.c = sym c.number_within-third.ensures ∙ c.in-Value-third.is in
-    let fit : Fit c.args.n c.in-Value.kind c.in-Value-second.to c.in-Value-third.from = let n = c.args.n in
-    let t = within_is n c.in-Value-second.to (tested_value _ _ _ _ _ to_is).1 in
-    let f = within_is n c.in-Value-third.from (tested_value _ _ _ _ _ from_is).1 in
-    record {
-      kinds = leb-true _ _ (tested_value _ _ _ _ _ kind_is).1;
-      some_to = t.0;
-      few_to = t.1;
-      some_from = f.0;
-      few_from = f.1;
-    } in
-    let steps : Steps c.args.n c.in-Value.kind c.in-Value-second.to c.in-Value-third.from = steps_fit _ _ _ _ fit c.requires in
-    omega (arith, steps)
+overflow_add-place-2 c = omega (arith, steps _ _ _ c.args.n _ _ _ (sym c.kind_at.ensures ∙ ap read c.in_ok-kind.was) (sym c.number_within.ensures ∙ ap read c.in_ok-to.was) (sym c.number_within-2.ensures ∙ ap read c.in_ok-from.was) c.requires)
 
 pub returns : goal.returns
 unfolding record_at
 returns c =
-    let kind_is : tested (λ kind. leb kind 3) 6 (number_at c.args.file.now c.args.at) ≡ Value c.in-Value.kind c.in-Value.at c.in-Value.a = sym c.kind_at-first.ensures ∙ c.in-Value.is in
-    let to_is : tested (within c.args.n) 6 (number_at c.args.file.now c.in-Value.a) ≡ Value c.in-Value-second.to c.in-Value-second.at c.in-Value-second.b = sym c.number_within-second.ensures ∙ c.in-Value-second.is in
-    let from_is : tested (within c.args.n) 6 (number_at c.args.file.now c.in-Value-second.b) ≡ Value c.in-Value-third.from c.in-Value-third.at c.in-Value-third.c = sym c.number_within-third.ensures ∙ c.in-Value-third.is in
-    c.read_value.ensures ∙ sym (after_value _ _ _ _ kind_is ∙ after_value _ _ _ _ to_is ∙ after_value _ _ _ _ from_is)
+    c.read_value.ensures
+    ∙ sym (after_value _ _ _ _ (sym c.kind_at.ensures ∙ ap read c.in_ok-kind.was)
+    ∙ after_value _ _ _ _ (sym c.number_within.ensures ∙ ap read c.in_ok-to.was)
+    ∙ after_value _ _ _ _ (sym c.number_within-2.ensures ∙ ap read c.in_ok-from.was))

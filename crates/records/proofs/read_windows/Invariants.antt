@@ -2,16 +2,12 @@
 use Rattle.records.proofs.Records.{store}
 use Rattle.sheet.specs.File.{records_at}
 use Rattle.records.specs.Steps.{Walks}
-use Rattle.records.specs.declared.Ending.{Ending}
-use mathlib.Core.Path.{◌≡◌}
+use Rattle.numbers.specs.declared.refusals.Refusal as code
+use Rattle.std.specs.Prelude.{Result}
 use mathlib.Core.List.{List}
-use Prim.Native.Nat.{◌-◌, ◌≤◌}
-use lib.ListN.{length}
+use Prim.Native.Nat.{ℕ, ◌-◌}
 use lib.IntN.{ℤ}
 use Rattle.records.proofs.read_windows.Given as goal
 
-abbrev pub invariant-loop-k : goal.invariant-loop-k
-invariant-loop-k l = (l.k ≤ l.count) × (length l.part ≡ length l.initial.part) × ((r : Ending) (now : List ℤ) → Walks store (records_at l.file l.n (l.count - l.k) l.low l.p) l.part r now → Walks store (records_at l.file l.n l.count 0 l.at) l.initial.part r now)
-
-abbrev pub decreases-loop-k : goal.decreases-loop-k
-decreases-loop-k l = l.count - l.k
+abbrev pub invariant-loop : goal.invariant-loop
+invariant-loop l = (r : Result ℕ code.Refusal) (now : List ℤ) → Walks store (records_at l.file l.n (l.count - l.counter) l.low l.next) l.part r now → Walks store (records_at l.file l.n l.count 0 l.at) l.initial.part r now

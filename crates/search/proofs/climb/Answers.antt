@@ -1,39 +1,28 @@
 -- `search::climb` meets its contract. The invariant: the climb stands, with its circuit; the measure is what is left of the climb, which falls
 -- since every step goes to a later cycle time with a bottom up to n.
-use native.Mathlib.Omega.{arith}
+use Rattle.std.proofs.lemmas.Result.{err_from_is_err_and}
 use Rattle.search.proofs.Asking.{stands_ready}
 use Rattle.search.proofs.Rising.{fresh_stands, climb_asks, climb_next, climbed_low, climbed_none}
 use Rattle.search.proofs.climb.Goals as goal
 
-pub loop-weight-init : goal.loop-weight-init
-loop-weight-init c = fresh_stands _ _ _ c.requires
+pub loop-above-init : goal.loop-above-init
+loop-above-init c = fresh_stands _ _ _ c.requires
 
 pub judge_at-requires : goal.judge_at-requires
-judge_at-requires c = stands_ready _ _ _ _ c.loop-weight.invariant
-
-pub shape_of-low-in-Works : goal.shape_of-low-in-Works
-shape_of-low-in-Works c = omega (arith, c.judge_at.auto, c.loop-weight.invariant.low_room, c.loop-weight.invariant.found_room, c.requires.low_room, c.requires.found_room)
-
-pub shape_of-found-in-Works : goal.shape_of-found-in-Works
-shape_of-found-in-Works c = omega (arith, c.judge_at.auto, c.loop-weight.invariant.low_room, c.loop-weight.invariant.found_room, c.requires.low_room, c.requires.found_room)
-
-pub returns-in-Works : goal.returns-in-Works
-returns-in-Works c = climbed_low _ _ _ _ c.loop-weight.invariant _ _ c.judge_at.ensures c.in-Works.is
+judge_at-requires c = stands_ready _ _ _ _ c.loop-above.invariant
 
 pub climb_by-requires : goal.climb_by-requires
-climb_by-requires c = climb_asks _ _ _ _ c.loop-weight.invariant _ _ c.judge_at.ensures _ _ c.in-Above.is
+climb_by-requires c = climb_asks _ _ _ _ c.loop-above.invariant _ _ c.judge_at.ensures _ c.in-Some.is
 
-pub loop-weight-smaller : goal.loop-weight-smaller
-loop-weight-smaller c = (climb_next _ _ _ _ c.loop-weight.invariant _ _ c.judge_at.ensures _ _ c.in-Above.is _ _ c.climb_by.ensures _ c.in-On.is).1
+pub returns-in_err-at : goal.returns-in_err-at
+returns-in_err-at c = let p = err_from_is_err_and c.from_residual.result c.from_residual.ensures.1 in
+    rw (p.1, p.2) (climbed_none _ _ _ _ c.loop-above.invariant _ _ c.judge_at.ensures _ c.in-Some.is _ _ c.climb_by.ensures _ c.in_err-at.was)
 
-pub loop-weight-preserved : goal.loop-weight-preserved
-loop-weight-preserved c = (climb_next _ _ _ _ c.loop-weight.invariant _ _ c.judge_at.ensures _ _ c.in-Above.is _ _ c.climb_by.ensures _ c.in-On.is).0
+pub loop-above-smaller : goal.loop-above-smaller
+loop-above-smaller c = (climb_next _ _ _ _ c.loop-above.invariant _ _ c.judge_at.ensures _ c.in-Some.is _ _ c.climb_by.ensures _ c.in_ok-at.was).1
 
-pub shape_of-low-in-None : goal.shape_of-low-in-None
-shape_of-low-in-None c = omega (arith, c.judge_at.auto, c.climb_by.auto, c.loop-weight.invariant.low_room, c.loop-weight.invariant.found_room, c.requires.low_room, c.requires.found_room)
+pub loop-above-preserved : goal.loop-above-preserved
+loop-above-preserved c = (climb_next _ _ _ _ c.loop-above.invariant _ _ c.judge_at.ensures _ c.in-Some.is _ _ c.climb_by.ensures _ c.in_ok-at.was).0
 
-pub shape_of-found-in-None : goal.shape_of-found-in-None
-shape_of-found-in-None c = omega (arith, c.judge_at.auto, c.climb_by.auto, c.loop-weight.invariant.low_room, c.loop-weight.invariant.found_room, c.requires.low_room, c.requires.found_room)
-
-pub returns-in-None : goal.returns-in-None
-returns-in-None c = climbed_none _ _ _ _ c.loop-weight.invariant _ _ c.judge_at.ensures _ _ c.in-Above.is _ _ c.climb_by.ensures _ _ c.in-None.is
+pub returns : goal.returns
+returns c = climbed_low _ _ _ _ c.loop-above.invariant _ _ c.judge_at.ensures c.in_default.is

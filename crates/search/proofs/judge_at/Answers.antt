@@ -1,5 +1,5 @@
 -- `search::judge_at` meets its contract: what Ask answers, with the sums of the circuit that refutes.
-use Rattle.search.proofs.Asking.{judged_works, judged_never, judged_lists, judged_above}
+use Rattle.search.proofs.Asking.{judged_works, judged_lists, judged_above}
 use Rattle.search.proofs.judge_at.Goals as goal
 
 pub weigh-weight-requires : goal.weigh-weight-requires
@@ -8,8 +8,5 @@ weigh-weight-requires c = judged_lists _ _ _ c.requires _ _ c.ask_at.ensures _ c
 pub returns-in-Accepted : goal.returns-in-Accepted
 returns-in-Accepted c = judged_works _ _ _ c.requires _ _ c.ask_at.ensures _ c.in-Accepted.is
 
-pub returns-in-Refused : goal.returns-in-Refused
-returns-in-Refused c = absurd (judged_never _ _ _ c.requires _ _ c.ask_at.ensures _ c.in-Refused.is)
-
 pub returns-in-Refuted : goal.returns-in-Refuted
-returns-in-Refuted c = judged_above _ _ _ c.requires _ _ c.ask_at.ensures _ c.in-Refuted.is _ c.weigh-weight.ensures.0
+returns-in-Refuted c = judged_above _ _ _ c.requires _ _ c.ask_at.ensures _ c.in-Refuted.is _ c.weigh-weight.ensures.sums

@@ -1,9 +1,9 @@
 -- Each return is a case of `Next`.
-use mathlib.Core.Path.{refl, subst, ap, ◌∙◌}
-use Prim.Native.Nat.{ℕ, ◌*◌}
+use mathlib.Core.Path.{refl}
+use Prim.Native.Nat.{◌*◌}
 use native.Mathlib.Omega.{arith}
-use Rattle.turns.specs.Rounds.{turn_of, Differs, on, still, again}
-use Rattle.turns.proofs.Filling.{filled_whole}
+use Rattle.turns.specs.Rounds.{on, still, again}
+use Rattle.turns.proofs.Differing.{some_differ, none_differ}
 use Rattle.turns.proofs.Places.{nodes_small}
 use Rattle.turns.proofs.next.Goals as goal
 
@@ -11,16 +11,17 @@ pub returns-then-g-job : goal.returns-then-g-job
 returns-then-g-job c = on c.if-g-job.true c.turn_at.ensures refl
 
 pub overflow_mul-nodes : goal.overflow_mul-nodes
-overflow_mul-nodes c = omega (arith, nodes_small c.args.job.n c.args.job.positions c.args.job.p c.requires.0.limits)
+overflow_mul-nodes c = omega (arith, nodes_small c.args.job.now.sheet.n c.args.job.now.sheet.positions c.args.job.now.time.top c.args.job.now.posed.limits)
 
-pub differs-node-requires : goal.differs-node-requires
-differs-node-requires c = let few = nodes_small c.args.job.n c.args.job.positions c.args.job.p c.requires.0.limits in
-    (omega (arith, few, c.requires.5), omega (arith, few, c.requires.4, c.requires.5))
-
-pub returns-then-node-nodes : goal.returns-then-node-nodes
-returns-then-node-nodes c = let a = c.args in let e = c.if-node-nodes.true in
-    still c.if-g-job.false (subst (Differs a.old.now a.new.now (a.job.positions * a.job.n)) e c.differs-node.ensures)
-    (c.turn_at-then-node-nodes.ensures ∙ ap (λ (x : ℕ). turn_of 0 a.turn.round 0 x a.job a.schedule.now) e) refl
+pub returns-in_default : goal.returns-in_default
+returns-in_default c =
+    let a = c.args in
+    let few = nodes_small a.job.now.sheet.n a.job.now.sheet.positions a.job.now.time.top a.job.now.posed.limits in
+    still c.if-g-job.false (none_differ a.old.now a.new.now (a.job.now.sheet.positions * a.job.now.sheet.n) (omega (arith, few, c.requires.4)) (omega (arith, few, c.requires.3, c.requires.4)) c.in_default.ensures) c.turn_at-in_default.ensures refl
 
 pub returns : goal.returns
-returns c = again c.if-g-job.false c.differs-node.result (omega (arith, c.differs-node.ensures.within, c.if-node-nodes.false)) c.differs-node.ensures c.turn_at-2.ensures (filled_whole c.args.new.now c.args.old.now _ c.requires.4 c.write_times.ensures)
+returns c =
+    let a = c.args in
+    let few = nodes_small a.job.now.sheet.n a.job.now.sheet.positions a.job.now.time.top a.job.now.posed.limits in
+    let found = some_differ a.old.now a.new.now (a.job.now.sheet.positions * a.job.now.sheet.n) (omega (arith, few, c.requires.4)) (omega (arith, few, c.requires.3, c.requires.4)) c.in-Some.node c.in-Some.ensures in
+    again c.if-g-job.false c.in-Some.node found.0 found.1 c.turn_at-2.ensures c.copy_from_slice.ensures.after

@@ -6,62 +6,20 @@ use Rattle.turns.specs.Rounds.{Named, named, board, Reach}
 use Rattle.turns.proofs.Folds.{raise_more, raise_same}
 use Rattle.turns.proofs.step.Goals as goal
 
-pub offset_bounds-old-departure : goal.offset_bounds-old-departure
-offset_bounds-old-departure c =
-    let reach : Reach c.edge_of-e.result c.args.old.now c.args.new.now c.args.row.now = let a = c.args in subst (λ (e : Edge). Reach e a.old.now a.new.now a.row.now) (sym c.edge_of-e.ensures) c.requires.reach in
-    let r = reach in omega arith
-
-pub overflow_add-old : goal.overflow_add-old
-overflow_add-old c =
-    let reach : Reach c.edge_of-e.result c.args.old.now c.args.new.now c.args.row.now = let a = c.args in subst (λ (e : Edge). Reach e a.old.now a.new.now a.row.now) (sym c.edge_of-e.ensures) c.requires.reach in
-    let r = reach in omega arith
-
-pub offset_bounds-new-arrival : goal.offset_bounds-new-arrival
-offset_bounds-new-arrival c =
-    let reach : Reach c.edge_of-e.result c.args.old.now c.args.new.now c.args.row.now = let a = c.args in subst (λ (e : Edge). Reach e a.old.now a.new.now a.row.now) (sym c.edge_of-e.ensures) c.requires.reach in
-    let r = reach in omega arith
-
-pub bounds-new-arrival : goal.bounds-new-arrival
-bounds-new-arrival c =
-    let reach : Reach c.edge_of-e.result c.args.old.now c.args.new.now c.args.row.now = let a = c.args in subst (λ (e : Edge). Reach e a.old.now a.new.now a.row.now) (sym c.edge_of-e.ensures) c.requires.reach in
-    let r = reach in omega arith
-
-pub offset_bounds-new-arrival-then-new-arrival : goal.offset_bounds-new-arrival-then-new-arrival
-offset_bounds-new-arrival-then-new-arrival c =
-    let reach : Reach c.edge_of-e.result c.args.old.now c.args.new.now c.args.row.now = let a = c.args in subst (λ (e : Edge). Reach e a.old.now a.new.now a.row.now) (sym c.edge_of-e.ensures) c.requires.reach in
-    let r = reach in omega arith
-
-pub bounds-new-arrival-then-new-arrival : goal.bounds-new-arrival-then-new-arrival
-bounds-new-arrival-then-new-arrival c =
-    let reach : Reach c.edge_of-e.result c.args.old.now c.args.new.now c.args.row.now = let a = c.args in subst (λ (e : Edge). Reach e a.old.now a.new.now a.row.now) (sym c.edge_of-e.ensures) c.requires.reach in
-    let r = reach in omega arith
-
 pub mark_of-requires : goal.mark_of-requires
 mark_of-requires c =
     let reach : Reach c.edge_of-e.result c.args.old.now c.args.new.now c.args.row.now = let a = c.args in subst (λ (e : Edge). Reach e a.old.now a.new.now a.row.now) (sym c.edge_of-e.ensures) c.requires.reach in
     (reach.departs_few, omega (arith, c.requires.kind_few))
 
-pub offset_bounds-row-arrival : goal.offset_bounds-row-arrival
-offset_bounds-row-arrival c =
-    let reach : Reach c.edge_of-e.result c.args.old.now c.args.new.now c.args.row.now = let a = c.args in subst (λ (e : Edge). Reach e a.old.now a.new.now a.row.now) (sym c.edge_of-e.ensures) c.requires.reach in
-    let r = reach in omega arith
-
-pub bounds-row-arrival : goal.bounds-row-arrival
-bounds-row-arrival c =
-    let reach : Reach c.edge_of-e.result c.args.old.now c.args.new.now c.args.row.now = let a = c.args in subst (λ (e : Edge). Reach e a.old.now a.new.now a.row.now) (sym c.edge_of-e.ensures) c.requires.reach in
-    let r = reach in omega arith
-
 pub returns-then-new-arrival : goal.returns-then-new-arrival
 returns-then-new-arrival c =
     let A : Named = let a = c.args in named a.w a.turn.at in
     let marked : c.mark_of.result ≡ A.mark = omega (arith, c.mark_of.ensures, ap (λ (x : Edge). x.departure) c.edge_of-e.ensures) in
-    let m = c.less-most in let a = c.args in
+    let m = c.saturating_sub-most in let a = c.args in
     raise_more a.old.now A (board a.new.now a.row.now) c.mark_of.result c.edge_of-e.result m.result marked c.edge_of-e.ensures m.ensures (omega (arith, c.if-new-arrival.true))
 
 pub returns-else-new-arrival : goal.returns-else-new-arrival
 returns-else-new-arrival c =
     let A : Named = let a = c.args in named a.w a.turn.at in
-    let m = c.less-most in let a = c.args in
+    let m = c.saturating_sub-most in let a = c.args in
     raise_same a.old.now A (board a.new.now a.row.now) A.mark c.edge_of-e.result m.result refl c.edge_of-e.ensures m.ensures (omega (arith, c.if-new-arrival.false))
-
--- UNMATCHED shared-slice-read-smaller: shared-slice-read-less : tie.Need-shared-slice-read-smaller shared-slice-read-less c = let r = reach c.before in omega arith

@@ -1,37 +1,16 @@
--- `values::give` meets its contract. The invariant: the first k values are stored; the measure is what is left.
-use mathlib.Core.Path.{refl}
+-- The values take the front of the list, as far as it reaches.
+use mathlib.Core.Path.{refl, ap, ◌∙◌}
+use mathlib.Core.List.{List, ◌++◌}
+use Prim.Native.Nat.{ℕ}
 use native.Mathlib.Omega.{arith}
-use native.Mathlib.Nat.{le_antisymm}
-use Rattle.values.proofs.Lists.{stores_more, stores_all, stores_length}
+use lib.ListN.{drop}
+use Rattle.values.proofs.Lists.{front}
 use Rattle.values.proofs.give.Goals as goal
 
-pub loop-k-init : goal.loop-k-init
-loop-k-init c = (omega arith, refl)
-
-pub offset_bounds-list-k : goal.offset_bounds-list-k
-offset_bounds-list-k c = omega (arith, c.loop-k-test.true, c.requires.0)
-
-pub bounds-list-k : goal.bounds-list-k
-bounds-list-k c = omega (arith, c.loop-k-test.true, c.requires.0)
-
-pub put-requires : goal.put-requires
-put-requires c = tt
-
-pub overflow_add-k : goal.overflow_add-k
-overflow_add-k c = omega arith
-
-pub loop-k-smaller : goal.loop-k-smaller
-loop-k-smaller c = omega arith
-
-pub loop-k-preserved : goal.loop-k-preserved
-loop-k-preserved c = let h = c.loop-k-test.true in (
-  omega (arith, h),
-  stores_more c.args.values.now c.args.a.values _ _ c.loop-k.k (omega (arith, h, c.requires)) c.loop-k.invariant.1 c.put.ensures,
-)
-
-pub shape_of-values : goal.shape_of-values
-shape_of-values c = stores_length c.args.values.now c.args.a.values _ c.loop-k.k c.loop-k.invariant.1
-
 pub returns : goal.returns
-returns c = let i = c.loop-k.invariant in
-    (refl, stores_all c.args.values.now c.args.a.values _ c.loop-k.k _ i.1 (le_antisymm i.0 c.loop-k-test.false))
+returns c = let n = c.min-count.result in let values = c.args.values.now in
+    let put = ap (λ (front : List ℕ). front ++ drop n values) c.copy_from_slice.ensures.after in
+    record {
+      numbered = refl;
+      valued = put ∙ front values c.args.list.now n (omega (arith, c.min-count.ensures)) (omega (arith, c.min-count.ensures)) (λ below. omega (arith, c.min-count.ensures, below));
+    }

@@ -7,11 +7,11 @@ use Rattle.writer.proofs.Runs.{run_none}
 use mathlib.Core.Path.{◌≡◌, sym, ap, ◌∙◌}
 use Rattle.writer.proofs.write_cell.Goals as goal
 
-pub returns-then-is_absent : goal.returns-then-is_absent
+pub returns-then-absent-clause-wrote : goal.returns-then-absent-clause-wrote
 unfolding cell records
-returns-then-is_absent c = rw (sym (ap absent (passed c.args.value c.ranges.value.sfits)) ∙ sym c.is_absent.ensures ∙ c.if-is_absent.true) (run_none c.args.out.now c.args.at)
+returns-then-absent-clause-wrote c = rw (sym (ap absent (passed c.args.value c.ranges.value.sfits)) ∙ sym c.is_absent-absent.ensures ∙ c.if-absent.true) (run_none c.args.out.now c.args.at)
 
-pub returns : goal.returns
+pub returns-clause-wrote : goal.returns-clause-wrote
 unfolding cell records
-returns c = let e : c.number_of.result ≡ encoded c.args.value = c.number_of.ensures ∙ c.encode.ensures ∙ ap encoded (passed c.args.value c.ranges.value.sfits) in
-    rw (sym (ap absent (passed c.args.value c.ranges.value.sfits)) ∙ sym c.is_absent.ensures ∙ c.if-is_absent.false) (rw e at c.write_window.ensures)
+returns-clause-wrote c = let e : c.encode.result ≡ encoded c.args.value = c.encode.ensures ∙ ap encoded (passed c.args.value c.ranges.value.sfits) in
+    rw (sym (ap absent (passed c.args.value c.ranges.value.sfits)) ∙ sym c.is_absent-absent.ensures ∙ c.if-absent.false) (rw e at c.write_window.ensures.wrote)

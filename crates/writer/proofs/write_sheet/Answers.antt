@@ -1,35 +1,19 @@
--- `writer::write_sheet` meets its contract. The first walk gives the length; the second, over the same sheet, writes it.
-use Rattle.writer.proofs.Outcomes.{writes_refused, walked_length, writes_short, writes_done}
-use mathlib.Core.Path.{◌≡◌, sym, ◌∙◌}
+-- The first walk gives the length; the second, over the same sheet, writes it.
+use mathlib.Core.Path.{sym, ap, ◌∙◌}
+use mathlib.Core.List.{[]}
 use native.Mathlib.Omega.{arith}
-use Rattle.tables.specs.Sheets.{Sheet, sheet, refusal}
+use Rattle.tables.specs.declared.sheets.Sheet.{Sheet}
+use Rattle.tables.specs.Lent.{lent}
+use Rattle.sheet.specs.Written.{sheet_numbers}
+use Rattle.writer.specs.Steps.{run}
+use Rattle.writer.proofs.Outcomes.{walked_length, writes_short, writes_done}
 use Rattle.writer.proofs.write_sheet.Goals as goal
 
-pub returns-then-judged-ne0 : goal.returns-then-judged-ne0
-returns-then-judged-ne0 c =
-    let S : Sheet = let a = c.args in sheet a.n a.m a.positions a.tables.now a.schedule.now in
-    writes_refused S c.args.out.now _ c.judge-judged.ensures c.if-judged-ne0.true
-
-pub write_all-length-requires : goal.write_all-length-requires
-write_all-length-requires c =
-    let S : Sheet = let a = c.args in sheet a.n a.m a.positions a.tables.now a.schedule.now in
-    let admitted : refusal S ≡ 0 = sym c.judge-judged.ensures ∙ c.if-judged-ne0.false in
-    admitted
-
 pub returns-then-is_short : goal.returns-then-is_short
-returns-then-is_short c =
-    let S : Sheet = let a = c.args in sheet a.n a.m a.positions a.tables.now a.schedule.now in
-    let admitted : refusal S ≡ 0 = sym c.judge-judged.ensures ∙ c.if-judged-ne0.false in
-    writes_short S c.args.out.now admitted _ _ _ c.write_all-length.ensures c.if-is_short.true
-
-pub write_all-requires : goal.write_all-requires
-write_all-requires c =
-    let S : Sheet = let a = c.args in sheet a.n a.m a.positions a.tables.now a.schedule.now in
-    let admitted : refusal S ≡ 0 = sym c.judge-judged.ensures ∙ c.if-judged-ne0.false in
-    admitted
+returns-then-is_short c = let a = c.args in let ok = c.in_ok-admitted.ensures in
+    writes_short (lent a.sheet.now) a.out.now (sym ok.judged) _ _ _ (c.write_all-length.ensures ∙ ap (λ (s : Sheet). run [] 0 (sheet_numbers (lent s))) ok.same) c.if-is_short.true
 
 pub returns : goal.returns
-returns c =
-    let S : Sheet = let a = c.args in sheet a.n a.m a.positions a.tables.now a.schedule.now in
-    let admitted : refusal S ≡ 0 = sym c.judge-judged.ensures ∙ c.if-judged-ne0.false in
-    writes_done S c.args.out.now admitted _ _ c.write_all.ensures (omega (arith, walked_length S c.args.out.now _ _ _ c.write_all-length.ensures, c.if-is_short.false))
+returns c = let a = c.args in let ok = c.in_ok-admitted.ensures in
+    let long = walked_length (lent a.sheet.now) a.out.now _ _ _ (c.write_all-length.ensures ∙ ap (λ (s : Sheet). run [] 0 (sheet_numbers (lent s))) ok.same) in
+    writes_done (lent a.sheet.now) a.out.now (sym ok.judged) _ _ (c.write_all.ensures ∙ ap (λ (s : Sheet). run a.out.now 0 (sheet_numbers (lent s))) ok.same) (omega (arith, long, c.if-is_short.false))

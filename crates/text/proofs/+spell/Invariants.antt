@@ -1,5 +1,0 @@
--- `text::spell` meets its contract: the last digit stands after those of the tenth part. The measure is the digits left.
-use Rattle.text.proofs.+spell.Given as goal
-
-abbrev pub decreases-spell : goal.decreases-spell
-decreases-spell l = l.left
