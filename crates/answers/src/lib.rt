@@ -6,6 +6,7 @@ ghost use Rattle.reader.specs.Answers.{answer_read};
 ghost use Rattle.ask.specs.Answers.{answer_asked};
 ghost use Rattle.ends.specs.Answers.{answer_ended};
 ghost use Rattle.report.specs.Told.{answer_told};
+ghost use Rattle.writer.specs.Answers.{answer_written};
 ghost use Rattle.values.specs.Handed.{Given};
 
 use ask::Asked;
@@ -26,7 +27,8 @@ pub fn of_read(read: Result<Counts, Refusal>, values: &mut [u64]) -> u32
 
 // The writer's, and the report's: a length.
 pub fn of_length(length: Result<usize, Reason>, values: &mut [u64]) -> u32
-    ensures { Given (answer_told length) values.old result values.new }
+    ensures written { Given (answer_written length) values.old result values.new }
+    ensures told { Given (answer_told length) values.old result values.new }
 {
     match length {
         Ok(length) => give(values, 0, &[length as u64]),

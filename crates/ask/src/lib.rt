@@ -75,17 +75,10 @@ pub fn ask(
 ) -> Result<Asked, Reason>
     ensures { Outcome (lent sheet.now) time.top time.bottom plan.old circuit.old (answer_asked result) plan.new circuit.new }
 {
-    let admitted = sheet.admit()?;
-    if !tables::is_timed(time.top, time.bottom) {
-        return Err(Reason::CycleTime);
-    }
+    let line = Line::judge(sheet, time)?;
     let nodes = sheet.positions * sheet.n;
     if !tables::is_roomy(nodes, plan.len(), 4 * nodes, circuit.len()) {
         return Err(Reason::Room);
     }
-    let line = Line {
-        sheet: admitted.sheet,
-        time,
-    };
     Ok(decide(&line, plan, circuit))
 }

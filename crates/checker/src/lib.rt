@@ -1,6 +1,6 @@
 // The checker's calls for C: a sheet's bytes, p and q, and a proposal, answered by a number and values.
 // This crate knows which call follows which; the calls themselves are below it.
-// It renders document 02's E2, "Hold another engine's answer to the sheet", over a sheet file.
+// It renders document 02's E2, "Hold another engine's answer to the sheet", over a sheet file: C has a call for times and one for arcs, alike but for those.
 #![tactic(auto)]
 
 ghost use Rattle.calls.specs.Checker.{HeldTimes, HeldArcs};

@@ -12,9 +12,10 @@ ghost use Rattle.windows.specs.Arcs.{up, down};
 ghost use Rattle.edges.specs.Edges.{from_place, edge, edge_of, edge_at, site_of};
 ghost use Rattle.edges.specs.Naming.{four_at, limit_of, NamesPlace};
 
+use fractions::Fraction;
 use tables::sheets::Sheet;
 
-// A window as a record: its kind in numbers, the events "to" and "from", and its limit.
+// A window as a record: its kind in numbers, since document 01 names the decision on the number; the events "to" and "from", and its limit.
 #[derive(Clone, Copy, Debug, PartialEq, Eq)]
 pub struct Record {
     pub kind: u8,
@@ -23,7 +24,7 @@ pub struct Record {
     pub w: i32,
 }
 
-// How much a limit lies above 0, or 0.
+// How much a limit lies above 0, or 0. Signs end here, by hand: document 01 names the form of the mapping.
 pub fn upper(value: i32) -> u64
     ensures { (result ≡ up value) × (result < 2147483648) }
 {
@@ -63,7 +64,7 @@ fn place_of(n: usize, t: usize, kind: usize, to: usize, from: usize) -> usize
     row * n + (from - 1)
 }
 
-// The four numbers of an arc: kind, position, to, from.
+// The four numbers of an arc: kind, position, to, from. They may be any: the C interface takes them so, and what they name is found out.
 #[derive(Clone, Copy, Debug, PartialEq, Eq)]
 pub struct Four {
     pub kind: u8,
@@ -134,24 +135,24 @@ pub struct Site {
 }
 
 // The position g + 1. After the last comes the first again, a cycle time later.
-pub fn site_at(g: usize, n: usize, positions: usize, p: u64, q: u64) -> Site
-    requires { (g < positions) × (positions ≤ 16) × (n ≤ 12) }
-    ensures { result ≡ site_of g n positions p q }
+pub fn site_at(sheet: &Sheet, time: Fraction, g: usize) -> Site
+    requires { (g < sheet.now.positions) × (sheet.now.positions ≤ 16) × (sheet.now.n ≤ 12) }
+    ensures { result ≡ site_of g sheet.now.n sheet.now.positions time.top time.bottom }
 {
-    let here = g * n;
-    if g + 1 == positions {
+    let here = g * sheet.n;
+    if g + 1 == sheet.positions {
         return Site {
             here,
             next: 0,
-            cross: p,
-            q,
+            cross: time.top,
+            q: time.bottom,
         };
     }
     Site {
         here,
-        next: (g + 1) * n,
+        next: (g + 1) * sheet.n,
         cross: 0,
-        q,
+        q: time.bottom,
     }
 }
 
@@ -178,10 +179,10 @@ pub fn edge_of(w: Record, at: Site) -> Edge
     }
 }
 
-// The arc of a record at the position g + 1 of a line.
-pub fn edge_at(n: usize, positions: usize, p: u64, q: u64, g: usize, w: Record) -> Edge
-    requires { (n ≤ 12) × (positions ≤ 16) × (g < positions) × (p ≤ 1000000000) × (q ≤ 1000) × (1 ≤ w.to) × (1 ≤ w.from) }
-    ensures { result ≡ edge_at n positions p q g w }
+// The arc of a record at the position g + 1.
+pub fn edge_at(sheet: &Sheet, time: Fraction, g: usize, w: Record) -> Edge
+    requires { (sheet.now.n ≤ 12) × (sheet.now.positions ≤ 16) × (g < sheet.now.positions) × (time.top ≤ 1000000000) × (time.bottom ≤ 1000) × (1 ≤ w.to) × (1 ≤ w.from) }
+    ensures { result ≡ edge_at sheet.now.n sheet.now.positions time.top time.bottom g w }
 {
-    edge_of(w, site_at(g, n, positions, p, q))
+    edge_of(w, site_at(sheet, time, g))
 }

@@ -4,7 +4,7 @@
 #![tactic(auto)]
 
 ghost use Rattle.std.specs.Prelude.{◌≡◌, ◌+◌, ◌*◌, ◌/◌, ◌≤◌, ◌<◌, length};
-ghost use Rattle.text.specs.Text.{Puts, Adds};
+ghost use Rattle.text.specs.Text.{Adds};
 ghost use Rattle.ends.specs.Answers.{highest, arcs_of};
 ghost use Rattle.lines.specs.Lines.{high_spelled};
 ghost use Rattle.lines.specs.Buffers.{high_text, ends_text, found_text, none_text};
@@ -21,7 +21,7 @@ fn put_highest(text: &mut Text, high: Option<Stand>)
 {
     match high {
         None => text.word(b"open"),
-        Some(at) => put_fraction(text, at.time.top, at.time.bottom),
+        Some(at) => put_fraction(text, at.time),
     }
 }
 
@@ -33,7 +33,7 @@ fn put_ends(text: &mut Text, low: Stand, high: Option<Stand>)
 {
     text.word(b"ends");
     text.byte(b' ');
-    put_fraction(text, low.time.top, low.time.bottom);
+    put_fraction(text, low.time);
     text.byte(b' ');
     put_highest(text, high);
     text.byte(b'\n');
@@ -41,7 +41,7 @@ fn put_ends(text: &mut Text, low: Stand, high: Option<Stand>)
 
 // The circuit of the highest cycle time, only if there is one.
 fn put_high(text: &mut Text, high: Option<Stand>, circuit: &[u8])
-    requires { (text.old.at < 400000) × (4 * arcs_of high ≤ length circuit.now) × (arcs_of high ≤ 192) }
+    requires { (text.old.at < 500000) × (4 * arcs_of high ≤ length circuit.now) × (arcs_of high ≤ 192) }
     ensures short { text.new.at ≤ text.old.at + 16250 }
     ensures adds { Adds text.old (high_text (highest high) circuit.now (arcs_of high)) text.new }
 {
@@ -51,32 +51,24 @@ fn put_high(text: &mut Text, high: Option<Stand>, circuit: &[u8])
 }
 
 // A sheet with ends: these and the circuits that show them.
-pub fn put_found(
-    out: &mut [u8],
-    low: Stand,
-    high: Option<Stand>,
-    first: &[u8],
-    second: &[u8],
-) -> usize
-    requires { (low.arcs ≤ 192) × (arcs_of high ≤ 192) × (4 * low.arcs ≤ length first.now) × (4 * arcs_of high ≤ length second.now) }
-    ensures { (result ≤ 40000) × Puts out.old 0 (found_text low.time.top low.time.bottom (highest high) first.now low.arcs second.now (arcs_of high)) result out.new }
+pub fn put_found(text: &mut Text, low: Stand, high: Option<Stand>, first: &[u8], second: &[u8])
+    requires { (text.old.at < 400000) × (low.arcs ≤ 192) × (arcs_of high ≤ 192) × (4 * low.arcs ≤ length first.now) × (4 * arcs_of high ≤ length second.now) }
+    ensures short { text.new.at ≤ text.old.at + 32600 }
+    ensures adds { Adds text.old (found_text low.time.top low.time.bottom (highest high) first.now low.arcs second.now (arcs_of high)) text.new }
 {
-    let mut text = Text { out, at: 0 };
-    put_ends(&mut text, low, high);
-    put_circuit(&mut text, b"low", &first[..4 * low.arcs]);
-    put_high(&mut text, high, second);
-    text.at
+    put_ends(text, low, high);
+    put_circuit(text, b"low", &first[..4 * low.arcs]);
+    put_high(text, high, second);
 }
 
 // A sheet without ends: the circuits that show it.
-pub fn put_none(out: &mut [u8], none: NoTime, first: &[u8], second: &[u8]) -> usize
-    requires { (none.first ≤ 192) × (none.second ≤ 192) × (4 * none.first ≤ length first.now) × (4 * none.second ≤ length second.now) }
-    ensures { Puts out.old 0 (none_text first.now none.first second.now none.second) result out.new }
+pub fn put_none(text: &mut Text, none: NoTime, first: &[u8], second: &[u8])
+    requires { (text.old.at < 400000) × (none.first ≤ 192) × (none.second ≤ 192) × (4 * none.first ≤ length first.now) × (4 * none.second ≤ length second.now) }
+    ensures short { text.new.at ≤ text.old.at + 32600 }
+    ensures adds { Adds text.old (none_text first.now none.first second.now none.second) text.new }
 {
-    let mut text = Text { out, at: 0 };
     text.word(b"none");
     text.byte(b'\n');
-    put_circuit(&mut text, b"first", &first[..4 * none.first]);
-    put_circuit(&mut text, b"second", &second[..4 * none.second]);
-    text.at
+    put_circuit(text, b"first", &first[..4 * none.first]);
+    put_circuit(text, b"second", &second[..4 * none.second]);
 }

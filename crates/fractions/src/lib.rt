@@ -1,5 +1,5 @@
-// Fractions in lowest terms.
-// This crate knows two numbers at a time; it knows no circuit and no cycle time.
+// Fractions: two numbers, whatever they are, and in lowest terms.
+// This crate knows two numbers at a time; it knows no circuit, and not which cycle times a call takes.
 // It renders document 01's "fractions in lowest terms, with bottom at least 1".
 #![tactic(auto)]
 

@@ -14,7 +14,7 @@ use fractions::Fraction;
 use numbers::refusals::Reason;
 use tables::sheets::Admitted;
 
-// The number of Ask's answer.
+// The number of Ask's answer, for C. It is no `From`, which cannot be written for std's `Result`.
 fn number_of(asked: Result<Asked, Reason>) -> u32
     ensures { result ≡ (answer_asked asked).number }
 {

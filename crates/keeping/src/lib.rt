@@ -37,10 +37,7 @@ const REACH: i64 = 382000000000;
 fn is_in_reach(time: i64) -> bool
     ensures { result ≡ in_reach time }
 {
-    if time < -REACH {
-        return false;
-    }
-    time <= REACH
+    (-REACH..=REACH).contains(&time)
 }
 
 // Whether the times are in reach.
@@ -66,14 +63,7 @@ fn are_enough(count: usize, times: &[i64]) -> bool
 pub fn check_times(sheet: &Sheet, time: Fraction, times: &[i64]) -> Result<TimesHeld, Reason>
     ensures { Held (lent sheet.now) time.top time.bottom times.now result }
 {
-    sheet.admit()?;
-    if !tables::is_timed(time.top, time.bottom) {
-        return Err(Reason::CycleTime);
-    }
-    let line = Line {
-        sheet: *sheet,
-        time,
-    };
+    let line = Line::judge(sheet, time)?;
     if !are_enough(sheet.positions * sheet.n, times) {
         return Err(Reason::Times);
     }

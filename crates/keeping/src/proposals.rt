@@ -32,8 +32,7 @@ impl<'s, 't> Proposal<'s, 't> {
         requires reach { Reach (arc_at self.now.line g w) self.now.times.now }
         ensures { result ≡ keeps_at self.now.line g w self.now.times.now }
     {
-        let Line { sheet, time } = self.line;
-        let arc = edges::edge_at(sheet.n, sheet.positions, time.top, time.bottom, g, w);
+        let arc = edges::edge_at(&self.line.sheet, self.line.time, g, w);
         let departure = lifted(self.times[arc.departure]);
         let arrival = lifted(self.times[arc.arrival]);
         departure + arc.rise <= arrival + arc.fall

@@ -4,10 +4,11 @@
 #![tactic(auto)]
 
 ghost use Rattle.std.specs.Prelude.{◌≡◌, ◌∷◌, ◌+◌, ◌*◌, ◌/◌, ◌≤◌, ◌<◌, length};
-ghost use Rattle.text.specs.Text.{decimal, space, Puts, Adds};
+ghost use Rattle.text.specs.Text.{decimal, space, Adds};
 ghost use Rattle.lines.specs.Lines.{fraction, numbers_line, refused_line};
 ghost use Rattle.lines.specs.Buffers.{four_line, arc_lines, circuit_text, times_lines, plan_text};
 
+use fractions::Fraction;
 use text::Text;
 
 // A space and a number.
@@ -61,20 +62,21 @@ pub fn put_circuit(text: &mut Text, word: &[u8], circuit: &[u8])
 }
 
 // A fraction, as 5/1.
-pub fn put_fraction(text: &mut Text, top: u64, bottom: u64)
+pub fn put_fraction(text: &mut Text, value: Fraction)
     requires { text.old.at < 800000 }
     ensures short { text.new.at ≤ text.old.at + 41 }
-    ensures adds { Adds text.old (fraction top bottom) text.new }
+    ensures adds { Adds text.old (fraction value.top value.bottom) text.new }
 {
-    text.number(top);
+    text.number(value.top);
     text.byte(b'/');
-    text.number(bottom);
+    text.number(value.bottom);
 }
 
 // The times of a plan, n at each position, one line per position.
 fn put_positions(text: &mut Text, plan: &[u64], n: usize)
     requires { (text.old.at < 500000) × (1 ≤ n) × (n ≤ 12) × (length plan.now ≤ 192) }
-    ensures { Adds text.old (times_lines plan.now n (length plan.now / n)) text.new }
+    ensures short { text.new.at ≤ text.old.at + 4032 }
+    ensures adds { Adds text.old (times_lines plan.now n (length plan.now / n)) text.new }
 {
     for times in plan.chunks_exact(n) {
         put_numbers(text, times);
@@ -82,35 +84,26 @@ fn put_positions(text: &mut Text, plan: &[u64], n: usize)
 }
 
 // The plan: q and rounds, then its times.
-pub fn put_plan(
-    out: &mut [u8],
-    at: usize,
-    q: u64,
-    rounds: u64,
-    plan: &[u64],
-    n: usize,
-    positions: usize,
-) -> usize
-    requires { (at < 400000) × (1 ≤ n) × (n ≤ 12) × (positions ≤ 16) × (positions * n ≤ length plan.now) }
-    ensures { Puts out.old at (plan_text q rounds plan.now n positions) result out.new }
+pub fn put_plan(text: &mut Text, q: u64, rounds: u64, plan: &[u64], n: usize, positions: usize)
+    requires { (text.old.at < 400000) × (1 ≤ n) × (n ≤ 12) × (positions ≤ 16) × (positions * n ≤ length plan.now) }
+    ensures short { text.new.at ≤ text.old.at + 4100 }
+    ensures adds { Adds text.old (plan_text q rounds plan.now n positions) text.new }
 {
-    let mut text = Text { out, at };
     text.word(b"plan");
-    put_spaced(&mut text, q);
-    put_spaced(&mut text, rounds);
+    put_spaced(text, q);
+    put_spaced(text, rounds);
     text.byte(b'\n');
-    put_positions(&mut text, &plan[..positions * n], n);
-    text.at
+    put_positions(text, &plan[..positions * n], n);
 }
 
-// A refusal: its number, and its place in the file.
-pub fn put_refused(out: &mut [u8], number: u8, place: usize) -> usize
-    ensures { Puts out.old 0 (refused_line number place) result out.new }
+// A refusal: its number, which may be any, and its place in the file.
+pub fn put_refused(text: &mut Text, number: u8, place: usize)
+    requires { text.old.at < 700000 }
+    ensures short { text.new.at ≤ text.old.at + 50 }
+    ensures adds { Adds text.old (refused_line number place) text.new }
 {
-    let mut text = Text { out, at: 0 };
     text.word(b"refused");
-    put_spaced(&mut text, u64::from(number));
-    put_spaced(&mut text, place as u64);
+    put_spaced(text, u64::from(number));
+    put_spaced(text, place as u64);
     text.byte(b'\n');
-    text.at
 }

@@ -86,7 +86,7 @@ pub fn number_at(file: &[u8], at: usize) -> Result<Number, Refusal>
     number_in(file, at, GROUPS)
 }
 
-// Writes at most `left` groups of the value from a place on, as far as there is room.
+// Writes at most `left` groups of the value from a place on, as far as there is room. One number is put, so place and buffer stay two parameters.
 fn put_in(out: &mut [u8], at: usize, value: usize, left: usize)
     ensures { out.new ≡ sets out.old at (grouped left value) }
 {
@@ -125,7 +125,7 @@ pub fn put(out: &mut [u8], at: usize, value: usize) -> usize
     size(value)
 }
 
-// The number that a limit is written as.
+// The number that a limit is written as. The mapping is by hand, both ways: document 01 names this form.
 pub fn encode(v: i32) -> u32
     ensures { result ≡ encoded v }
 {

@@ -91,7 +91,8 @@ fn read_into(file: &[u8], tables: &mut [i32], schedule: &mut [u8]) -> Result<Cou
 }
 
 // Reads a sheet file into the caller's tables and schedule: n, m and V, or the refusal: 1 to 9, and its place in the file (0 for 9).
-// The first walk has no room to write, so that a refusal alters nothing; the second fills 4·m·n² and V places.
+// The first walk has no room to write, so that a refusal alters nothing; the second fills 4·m·n² and V places. The two lists are filled here, so they
+// are no `Sheet` yet.
 pub fn read_sheet(file: &[u8], tables: &mut [i32], schedule: &mut [u8]) -> Result<Counts, Refusal>
     ensures { Reads file.now tables.old schedule.old result tables.new schedule.new }
 {

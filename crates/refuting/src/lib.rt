@@ -46,7 +46,7 @@ struct Chain<'s, 'a> {
     ghost follows: { (k : ℕ) → suc k < count arcs.now → Follows (lent line.sheet) line.time.top line.time.bottom arcs.now k },
 }
 
-// Whether four numbers are those of a kind, a position and two events.
+// Whether four numbers are those of a kind, a position and two events. A proposal may have any, so the kind is a number here.
 fn is_named(sheet: &Sheet, arc: Four) -> bool
     ensures { result ≡ named sheet.now.n sheet.now.positions arc }
 {
@@ -79,7 +79,6 @@ fn edge_for(line: &Line, arc: Four) -> Edge
     requires { present (lent line.now.sheet) arc ≡ true }
     ensures { result ≡ edge_for (lent line.now.sheet) line.now.time.top line.now.time.bottom arc }
 {
-    let Line { sheet, time } = line;
     let window = Record {
         kind: arc.kind,
         to: arc.to,
@@ -87,10 +86,8 @@ fn edge_for(line: &Line, arc: Four) -> Edge
         w: edges::limit(&line.sheet, arc),
     };
     edges::edge_at(
-        sheet.n,
-        sheet.positions,
-        time.top,
-        time.bottom,
+        &line.sheet,
+        line.time,
         usize::from(arc.position) - 1,
         window,
     )
@@ -272,14 +269,7 @@ fn is_whole(many: usize) -> bool
 pub fn check_arcs(sheet: &Sheet, time: Fraction, arcs: &[u8]) -> Result<ArcsHeld, Reason>
     ensures { Held (lent sheet.now) time.top time.bottom arcs.now result }
 {
-    sheet.admit()?;
-    if !tables::is_timed(time.top, time.bottom) {
-        return Err(Reason::CycleTime);
-    }
-    let line = Line {
-        sheet: *sheet,
-        time,
-    };
+    let line = Line::judge(sheet, time)?;
     if !is_whole(arcs.len()) {
         return Err(Reason::Times);
     }

@@ -27,3 +27,16 @@ unless_few false k rest most here there = here
 pub otherwise_few : (a rest most : ℕ) → a ≤ most → rest ≤ most → otherwise a rest ≤ most
 otherwise_few zero rest most here there = there
 otherwise_few (suc a) rest most here there = here
+
+-- ---- what is judged first: a sheet, and then p and q
+-- where one of the two is refused, so is a call, whatever it tests after them
+pub front_refused : (a : ℕ) (t : Bool) (rest k : ℕ) → k ≡ otherwise a (unless t 10 0) → k ≢ 0 → otherwise a (unless t 10 rest) ≡ k
+front_refused zero true rest k e some = absurd (some e)
+front_refused zero false rest k e some = sym e
+front_refused (suc a) t rest k e some = sym e
+
+-- and where neither is
+pub front_granted : (a : ℕ) (t : Bool) → 0 ≡ otherwise a (unless t 10 0) → (a ≡ 0) × (t ≡ true)
+front_granted zero true e = (refl, refl)
+front_granted zero false e = absurd (omega arith)
+front_granted (suc a) t e = absurd (omega arith)

@@ -8,6 +8,8 @@ pub mod sheets;
 ghost use Rattle.std.specs.Prelude.{◌≡◌, ◌&&◌, ◌≤◌, leb, not, count_by};
 ghost use Rattle.tables.specs.Sheets.{within, admits, absent, places, timed};
 
+use fractions::Fraction;
+
 // "Numbers and room": four kinds; n 1..12; m 1..8; V 1..16; w -1,000,000..1,000,000; and "no window".
 pub const KINDS: usize = 4;
 
@@ -39,7 +41,7 @@ pub const CIRCUIT: usize = 4 * NODES;
 pub fn is_within(most: usize, number: usize) -> bool
     ensures { result ≡ within most number }
 {
-    1 <= number && number <= most
+    (1..=most).contains(&number)
 }
 
 // Whether a table's value says that there is no window.
@@ -53,13 +55,7 @@ pub fn is_absent(value: i32) -> bool
 pub fn is_admitted(value: i32) -> bool
     ensures { result ≡ admits value }
 {
-    if value == NO_WINDOW {
-        return true;
-    }
-    if value < -MOST_LIMIT {
-        return false;
-    }
-    value <= MOST_LIMIT
+    is_absent(value) || (-MOST_LIMIT..=MOST_LIMIT).contains(&value)
 }
 
 // How many places the tables of m modes of n events need: 4·m·n².
@@ -78,19 +74,14 @@ pub fn count_windows(part: &[i32]) -> usize
 }
 
 // Whether p and q lie within their limits: refusal 10.
-pub fn is_timed(p: u64, q: u64) -> bool
-    ensures { result ≡ timed p q }
+pub fn is_timed(time: Fraction) -> bool
+    ensures { result ≡ timed time.top time.bottom }
 {
-    if q < 1 {
-        return false;
-    }
-    if MOST_Q < q {
-        return false;
-    }
-    p <= MOST_P
+    (1..=MOST_Q).contains(&time.bottom) && time.top <= MOST_P
 }
 
-// Whether two buffers have the places that are needed of each: 9, "a buffer to be written is too short".
+// Whether two buffers have the places that are needed of each: 9, "a buffer to be written is too short". What they hold differs at each caller, so four
+// numbers are plainer than a value that is made for one test.
 pub fn is_roomy(need: usize, room: usize, other: usize, space: usize) -> bool
     ensures { result ≡ (leb need room && leb other space) }
 {

@@ -7,8 +7,9 @@ use native.Mathlib.Omega.{arith}
 use native.Mathlib.Nat.{mul-le-mul_right}
 use borrow.Author.Tests.{le-leb}
 use lib.ListN.{length}
-use Rattle.text.specs.Text.{Puts}
-use Rattle.text.proofs.Puts.{puts_then}
+use Rattle.text.specs.Text.{Puts, Adds}
+use Rattle.text.specs.declared.Text.{Text}
+use Rattle.text.proofs.Puts.{adds_then}
 use Rattle.theory.specs.Arcs.{Arc}
 use Rattle.theory.specs.Circuits.{ups, downs, forths, backs}
 use Rattle.theory.specs.Ends.{High, Lowest, LowShown, at_zero, above_zero}
@@ -52,7 +53,7 @@ use Rattle.weights.proofs.Held.{count_few}
 use Rattle.lines.specs.Lines.{low_word, none_word, first_word, second_word, line, circuit_lines, high_lines, plan_lines, refused_line}
 use Rattle.lines.specs.Buffers.{plan_text, ends_text, found_text, none_text}
 use Rattle.telling.specs.Tells.{TellsEnds, TellsNone, Tells}
-use Rattle.telling.specs.Steps.{TextStands, Askable, PlanStands, CircuitStands, CircuitsStand}
+use Rattle.telling.specs.Steps.{TextStands, TextAdded, Askable, PlanAdded, CircuitStands, CircuitsStand}
 use Rattle.lines.proofs.Spelled.{plan_is}
 use Rattle.endings.proofs.Spelled.{circuit_is, high_is}
 
@@ -94,9 +95,9 @@ stands_few s admitted {cs} h = let few = few_192 s admitted cs h.circuit in (ome
 -- ---- the text of ends, and of none
 
 module _ (s : Sheet) {first second : List ℕ} {count₁ count₂ : ℕ} where
-  pub found_told : {top bottom : ℕ} {high : High} {o mid out : List ℕ} {at next : ℕ} → CircuitsStand s (Finds s top bottom high) first count₁ second count₂
-      → Puts o 0 (found_text top bottom high first count₁ second count₂) at mid → PlanStands s top bottom mid at next out → TextStands (TellsEnds s) o next out
-  found_told {top} {bottom} {high} {o} {mid} {out} {at} {next} g x y =
+  pub found_told : {top bottom : ℕ} {high : High} {t u v : Text} → CircuitsStand s (Finds s top bottom high) first count₁ second count₂
+      → Adds t (found_text top bottom high first count₁ second count₂) u → PlanAdded s top bottom u v → TextAdded (TellsEnds s) t v
+  found_told {top} {bottom} {high} {t} {u} {v} g x y =
       let f = g.first_stands in
       let l = g.second_stands in
       let same = ap₂ (λ (a b : List ℕ). ends_text top bottom high ++ a ++ b) (circuit_is g.cs f.before first count₁ f.counted f.is low_word) (high_is g.ds l.before second count₂ l.counted l.is high) in
@@ -116,36 +117,40 @@ module _ (s : Sheet) {first second : List ℕ} {count₁ count₂ : ℕ} where
               rounds_are = y.rounds_are;
               text_is = refl;
             };
-        puts = puts_then {a = ends_text top bottom high ++ circuit_lines low_word g.cs ++ high_lines high g.ds} (subst (λ (t : List ℕ). Puts o 0 t at mid) same x) y.puts;
+        adds = adds_then {a = ends_text top bottom high ++ circuit_lines low_word g.cs ++ high_lines high g.ds} (subst (λ (l : List ℕ). Adds t l u) same x) y.adds;
       }
 
-  pub none_told : {o out : List ℕ} {next : ℕ} → CircuitsStand s (Lacks s) first count₁ second count₂ → Puts o 0 (none_text first count₁ second count₂) next out → TextStands (TellsNone s) o next out
-  none_told {o} {out} {next} g x =
+  pub none_told : {t u : Text} → CircuitsStand s (Lacks s) first count₁ second count₂ → Adds t (none_text first count₁ second count₂) u → TextAdded (TellsNone s) t u
+  none_told {t} {u} g x =
       let f = g.first_stands in
       let l = g.second_stands in
       let same = ap₂ (λ (a b : List ℕ). line none_word [] ++ a ++ b) (circuit_is g.cs f.before first count₁ f.counted f.is first_word) (circuit_is g.ds l.before second count₂ l.counted l.is second_word) in
       record {
         text = line none_word [] ++ circuit_lines first_word g.cs ++ circuit_lines second_word g.ds;
         says = record { first = g.cs; second = g.ds; lacks = g.shown; text_is = refl };
-        puts = subst (λ (t : List ℕ). Puts o 0 t next out) same x;
+        adds = subst (λ (l : List ℕ). Adds t l u) same x;
       }
 
 -- a sheet tells of its ends or of none
 module _ (s : Sheet) where
-  pub tells_ends : {o out : List ℕ} {next : ℕ} → TextStands (TellsEnds s) o next out → TextStands (λ text. TellsEnds s text ⊎ TellsNone s text) o next out
-  tells_ends x = record { text = x.text; says = inl x.says; puts = x.puts }
+  pub tells_ends : {t u : Text} → TextAdded (TellsEnds s) t u → TextAdded (λ text. TellsEnds s text ⊎ TellsNone s text) t u
+  tells_ends x = record { text = x.text; says = inl x.says; adds = x.adds }
 
-  pub tells_none : {o out : List ℕ} {next : ℕ} → TextStands (TellsNone s) o next out → TextStands (λ text. TellsEnds s text ⊎ TellsNone s text) o next out
-  tells_none x = record { text = x.text; says = inr x.says; puts = x.puts }
+  pub tells_none : {t u : Text} → TextAdded (TellsNone s) t u → TextAdded (λ text. TellsEnds s text ⊎ TellsNone s text) t u
+  tells_none x = record { text = x.text; says = inr x.says; adds = x.adds }
+
+-- a text begun in a buffer stands from its start
+pub begun : {Says : List ℕ → Type 0} {t u : Text} → t.at ≡ 0 → TextAdded Says t u → TextStands Says t.out.now u.at u.out.now
+begun {Says} {t} {u} e x = record { text = x.text; says = x.says; puts = subst (λ (i : ℕ). Puts t.out.now i x.text u.at u.out.now) e x.adds.puts }
 
 -- ---- the calls' answers
 
 -- the reader's
-pub tells_refused : (bytes : List ℕ) (r : Refusal) → sheet_in bytes ≡ file.refused r → {o out : List ℕ} {next : ℕ} → Puts o 0 (refused_line r.number r.at) next out → TextStands (Tells (sheet_in bytes)) o next out
-tells_refused bytes r e x = record { text = refused_line r.number r.at; says = subst (λ (w : Part Sheet). Tells w (refused_line r.number r.at)) (sym e) refl; puts = x }
+pub tells_refused : (bytes : List ℕ) (r : Refusal) → sheet_in bytes ≡ file.refused r → {t u : Text} → Adds t (refused_line r.number r.at) u → TextAdded (Tells (sheet_in bytes)) t u
+tells_refused bytes r e x = record { text = refused_line r.number r.at; says = subst (λ (w : Part Sheet). Tells w (refused_line r.number r.at)) (sym e) refl; adds = x }
 
-pub tells_got : (bytes : List ℕ) (s : Sheet) (place : ℕ) → sheet_in bytes ≡ file.got s place → {o out : List ℕ} {next : ℕ} → TextStands (λ text. TellsEnds s text ⊎ TellsNone s text) o next out → TextStands (Tells (sheet_in bytes)) o next out
-tells_got bytes s place e x = record { text = x.text; says = subst (λ (w : Part Sheet). Tells w x.text) (sym e) x.says; puts = x.puts }
+pub tells_got : (bytes : List ℕ) (s : Sheet) (place : ℕ) → sheet_in bytes ≡ file.got s place → {t u : Text} → TextAdded (λ text. TellsEnds s text ⊎ TellsNone s text) t u → TextAdded (Tells (sheet_in bytes)) t u
+tells_got bytes s place e x = record { text = x.text; says = subst (λ (w : Part Sheet). Tells w x.text) (sym e) x.says; adds = x.adds }
 
 -- Ask's at low
 module _ (s : Sheet) (top bottom : ℕ) (l : Askable s top bottom) (plan₀ circuit₀ : List ℕ) (long : length plan₀ ≡ 192) (wide : length circuit₀ ≡ 768) (a : Result Asked Reason) (plan circuit : List ℕ)
@@ -153,15 +158,15 @@ module _ (s : Sheet) (top bottom : ℕ) (l : Askable s top bottom) (plan₀ circ
   seen : (b : Result Asked Reason) → a ≡ b → ask.Outcome s top bottom plan₀ circuit₀ (answer_asked b) plan circuit
   seen b e = subst (λ (x : Result Asked Reason). ask.Outcome s top bottom plan₀ circuit₀ (answer_asked x) plan circuit) e o
 
-  pub asked_plan : (rounds : ℕ) → a ≡ Ok (asked.Accepted rounds) → length plan ≡ 192 → {mid out : List ℕ} {at next : ℕ} → Puts mid at (plan_text bottom rounds plan s.n s.positions) next out → PlanStands s top bottom mid at next out
-  asked_plan rounds e long' {mid} {out} {at} {next} x =
+  pub asked_plan : (rounds : ℕ) → a ≡ Ok (asked.Accepted rounds) → length plan ≡ 192 → {t u : Text} → Adds t (plan_text bottom rounds plan s.n s.positions) u → PlanAdded s top bottom t u
+  asked_plan rounds e long' {t} {u} x =
       let h = (accepted_is rounds (seen (Ok (asked.Accepted rounds)) e)).1 in
       record {
         rounds = rounds;
         plan = plan;
         plan_is = h.plan_is;
         rounds_are = h.rounds_are;
-        puts = subst (λ (t : List ℕ). Puts mid at t next out) (plan_is s plan (omega (arith, nodes_few s (accepted s l.admitted))) bottom rounds) x;
+        adds = subst (λ (l : List ℕ). Adds t l u) (plan_is s plan (omega (arith, nodes_few s (accepted s l.admitted))) bottom rounds) x;
       }
 
   pub asked_refuted : (k : ℕ) → a ≡ Ok (asked.Refuted k) → ⊥

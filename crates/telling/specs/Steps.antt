@@ -1,6 +1,7 @@
 -- What the steps of the telling promise each other. These definitions face the code.
 use Rattle.std.specs.Prelude.{◌≡◌, List, ℕ, ◌≤◌, length}
-use Rattle.text.specs.Text.{Puts}
+use Rattle.text.specs.Text.{Puts, Adds}
+use Rattle.text.specs.declared.Text.{Text}
 use Rattle.theory.specs.Arcs.{Rounds}
 use Rattle.tables.specs.Sheets.{Sheet, refusal}
 use Rattle.windows.specs.Inequalities.{Runs}
@@ -16,6 +17,12 @@ pub record TextStands (Says : List ℕ → Type 0) (out₀ : List ℕ) (next : �
   pub says : Says text
   pub puts : Puts out₀ 0 text next out
 
+-- a text that says so is added to what stood before
+pub record TextAdded (Says : List ℕ → Type 0) (before after : Text) : Type 0 where
+  pub text : List ℕ
+  pub says : Says text
+  pub adds : Adds before text after
+
 module _ (s : Sheet) where
   -- top/bottom works, and Ask does not refuse it
   pub record Askable (top bottom : ℕ) : Type 0 where
@@ -25,13 +32,13 @@ module _ (s : Sheet) where
     pub few : bottom ≤ 12
     pub small : top ≤ 1000000000
 
-  -- the lines of the plan at top/bottom stand in the buffer
-  pub record PlanStands (top bottom : ℕ) (out₀ : List ℕ) (at next : ℕ) (out : List ℕ) : Type 0 where
+  -- the lines of the plan at top/bottom are added to what stood before
+  pub record PlanAdded (top bottom : ℕ) (before after : Text) : Type 0 where
     pub rounds : ℕ
     pub plan : List ℕ
     pub plan_is : Earliest s top bottom plan
     pub rounds_are : Rounds (arcs s) top bottom (nodes s) rounds
-    pub puts : Puts out₀ at (plan_lines s bottom rounds plan) next out
+    pub adds : Adds before (plan_lines s bottom rounds plan) after
 
   -- a circuit of so many arcs, or none, stands in a buffer of 192 arcs
   pub record CircuitStands (cs : List Step) (count : ℕ) (buffer : List ℕ) : Type 0 where

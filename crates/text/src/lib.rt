@@ -24,7 +24,7 @@ pub struct Text<'a> {
 }
 
 impl<'a> Text<'a> {
-    // Puts a byte, if the buffer reaches that far.
+    // Puts a byte, if the buffer reaches that far. It is tested by hand: std does not say what the slice ends as after `get_mut`.
     pub fn byte(&mut self, byte: u8)
         requires { self.old.at < 1000000 }
         ensures { Adds self.old (byte ∷ []) self.new }

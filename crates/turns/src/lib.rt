@@ -40,13 +40,7 @@ pub fn turn_at(left: usize, r: usize, g: usize, node: usize, job: &Job) -> Turn
         node,
         first: job.start[t],
         last: job.start[t + 1],
-        at: edges::site_at(
-            g,
-            job.sheet.n,
-            job.sheet.positions,
-            job.time.top,
-            job.time.bottom,
-        ),
+        at: edges::site_at(&job.sheet, job.time, g),
     }
 }
 
@@ -82,7 +76,7 @@ fn differs(xs: &[u64], ys: &[u64]) -> Option<usize>
     xs.iter().zip(ys).position(|(x, y)| x != y)
 }
 
-// Writes the first `count` of the times over as many of another table, or of a plan's buffer.
+// Writes the first `count` of the times over as many of another table, or of a plan's buffer: the one count cuts both.
 pub fn write_times(times: &[u64], count: usize, into: &mut [u64])
     requires { (count ≤ length times.now) × (count ≤ length into.old) }
     ensures { Filled times.now count into.old into.new }

@@ -76,7 +76,7 @@ fn add(a: Weight, b: Weight) -> Weight
     )
 }
 
-// The sums of the first arcs of a circuit.
+// The sums of the first arcs of a circuit. The buffer has room for the longest, so how many of its arcs are meant is said beside it.
 pub fn weigh(sheet: &Sheet, circuit: &[u8], count: usize) -> Weight
     requires { Lists (lent sheet.now) circuit.now count }
     ensures sums { result ≡ weights_in (lent sheet.now) circuit.now count }

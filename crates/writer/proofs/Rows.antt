@@ -5,7 +5,7 @@ use mathlib.Core.List.{List, [], ◌∷◌, ◌++◌}
 use Prim.Native.Nat.{ℕ, suc, ◌+◌, ◌-◌, ◌*◌, ◌/◌, ◌%◌, ◌≤◌, ◌<◌}
 use native.Mathlib.Omega.{arith}
 use native.Mathlib.Numerals.{add-one}
-use native.Mathlib.Nat.{add-mul}
+use native.Mathlib.Nat.{add-mul, zero-mul, sub-zero}
 use lib.IntN.{ℤ, pos}
 use lib.ListN.{length, take, drop, get_or}
 use lib.Seq.{drop-cons, drop-drop}
@@ -18,8 +18,9 @@ use Rattle.sheet.specs.File.{Placed}
 use Rattle.sheet.specs.Written.{cell, placed_of, records, mode_numbers, modes_numbers}
 use Rattle.sheet.proofs.Counting.{one, none}
 use Rattle.sheet.proofs.Parts.{cell_absent, cell_present}
-use Rattle.writer.specs.Steps.{State, state, run}
-use Rattle.writer.proofs.Runs.{run_then, run_none}
+use Rattle.writer.specs.Steps.{Adds}
+use Rattle.writer.specs.declared.Numbers.{Numbers}
+use Rattle.writer.proofs.Runs.{Leaves, leaves_all, leaves_less, leaves_none}
 
 -- ---- the windows of a part: k places are passed
 abbrev pub left : List ℤ → ℕ → List Placed
@@ -58,39 +59,50 @@ unfolding records
 records_append n [] b = refl
 records_append n (w ∷ a) b = ap (λ (l : List ℕ). (w.place / (n * n)) ∷ (w.place / n % n + 1) ∷ (w.place % n + 1) ∷ encoded w.limit ∷ l) (records_append n a b)
 
-module _ (part : List ℤ) (k n : ℕ) (out : List ℕ) (p : ℕ) (whole : State) (e : run out p (records n (left part k)) ≡ whole) where
-  pub windows_next : k < length part → (r : ℕ) (now : List ℕ) → state r now ≡ run out p (records n (cell k (get_or part k (pos 0)))) → run now r (records n (left part (k + 1))) ≡ whole
-  windows_next h r now q =
-      run_then out p (records n (cell k (get_or part k (pos 0)))) r now q (records n (left part (k + 1)))
-      ∙ ap (λ (l : List ℕ). run out p l) (sym (ap (records n) (left_cons part k h) ∙ records_append n (cell k (get_or part k (pos 0))) (left part (k + 1))))
-      ∙ e
+module _ {s t : Numbers} {whole : List ℕ} (part : List ℤ) (k n : ℕ) (e : Leaves s whole t (records n (left part k))) where
+  pub windows_next : {u : Numbers} → k < length part → Adds t (records n (cell k (get_or part k (pos 0)))) u → Leaves s whole u (records n (left part (k + 1)))
+  windows_next h x = leaves_less (rw (left_cons part k h, records_append n (cell k (get_or part k (pos 0))) (left part (k + 1))) at e) x
 
-  pub windows_done : length part ≤ k → state p out ≡ whole
+  pub windows_done : length part ≤ k → Adds s whole t
   unfolding records
-  windows_done h = run_none out p ∙ ap (λ (l : List Placed). run out p (records n l)) (sym (left_none part k h)) ∙ e
+  windows_done h = leaves_none (rw (left_none part k h) at e)
 
--- ---- the modes: t of them are passed
-module _ (tables : List ℤ) (n m t : ℕ) (out : List ℕ) (p : ℕ) (whole : State) (e : run out p (modes_numbers n (m - t) (drop (t * (4 * (n * n))) tables)) ≡ whole) where
-  pub modes_next : t < m → (r : ℕ) (now : List ℕ) → state r now ≡ run out p (mode_numbers n (take (4 * (n * n)) (drop (t * (4 * (n * n))) tables)))
-      → run now r (modes_numbers n (m - (t + 1)) (drop ((t + 1) * (4 * (n * n))) tables)) ≡ whole
+-- ---- the modes: g of them are passed
+abbrev pub left_modes : ℕ → ℕ → List ℤ → ℕ → List ℕ
+left_modes n m tables g = modes_numbers n (m - g) (drop (g * (4 * (n * n))) tables)
+
+-- the part of the tables that has a mode's windows
+abbrev part_of : ℕ → List ℤ → ℕ → List ℤ
+part_of n tables g = take (4 * (n * n)) (drop (g * (4 * (n * n))) tables)
+
+pub modes_first : (t : Numbers) (tables : List ℤ) (n m : ℕ) → Leaves t (modes_numbers n m tables) t (left_modes n m tables 0)
+modes_first t tables n m = rw (sub-zero m, zero-mul (4 * (n * n))) (leaves_all t (modes_numbers n m tables))
+
+module _ (tables : List ℤ) (n m g : ℕ) where
+  left_modes_cons : g < m → left_modes n m tables g ≡ mode_numbers n (part_of n tables g) ++ left_modes n m tables (g + 1)
   unfolding modes_numbers
-  modes_next h r now q =
-      ap (λ (l : List ℤ). run now r (modes_numbers n (m - (t + 1)) l)) (sym (drop-drop (4 * (n * n)) (t * (4 * (n * n))) tables ∙ ap (λ (k : ℕ). drop k tables) (step t (4 * (n * n)))))
-      ∙ run_then out p (mode_numbers n (take (4 * (n * n)) (drop (t * (4 * (n * n))) tables))) r now q (modes_numbers n (m - (t + 1)) (drop (4 * (n * n)) (drop (t * (4 * (n * n))) tables)))
-      ∙ ap (λ (k : ℕ). run out p (modes_numbers n k (drop (t * (4 * (n * n))) tables))) (sym (one m t h))
-      ∙ e
+  left_modes_cons h =
+      ap (λ (k : ℕ). modes_numbers n k (drop (g * (4 * (n * n))) tables)) (one m g h)
+      ∙ ap (λ (l : List ℤ). mode_numbers n (part_of n tables g) ++ modes_numbers n (m - (g + 1)) l) (drop-drop (4 * (n * n)) (g * (4 * (n * n))) tables ∙ ap (λ (k : ℕ). drop k tables) (step g (4 * (n * n))))
     where
-      step : (t k : ℕ) → t * k + k ≡ (t + 1) * k
-      step t k = omega (arith, add-mul t 1 k)
+      step : (g k : ℕ) → g * k + k ≡ (g + 1) * k
+      step g k = omega (arith, add-mul g 1 k)
 
-  pub modes_done : m ≤ t → state p out ≡ whole
+  left_modes_none : m ≤ g → left_modes n m tables g ≡ []
   unfolding modes_numbers
-  modes_done h = run_none out p ∙ ap (λ (k : ℕ). run out p (modes_numbers n k (drop (t * (4 * (n * n))) tables))) (sym (none m t h)) ∙ e
+  left_modes_none h = ap (λ (k : ℕ). modes_numbers n k (drop (g * (4 * (n * n))) tables)) (none m g h)
+
+  module _ {s t : Numbers} {whole : List ℕ} (e : Leaves s whole t (left_modes n m tables g)) where
+    pub modes_next : {u : Numbers} → g < m → Adds t (mode_numbers n (part_of n tables g)) u → Leaves s whole u (left_modes n m tables (g + 1))
+    modes_next h x = leaves_less (rw (left_modes_cons h) at e) x
+
+    pub modes_done : m ≤ g → Adds s whole t
+    modes_done h = leaves_none (rw (left_modes_none h) at e)
 
 -- ---- the schedule: h positions are passed
-module _ (schedule : List ℕ) (h : ℕ) (out : List ℕ) (p : ℕ) (whole : State) (e : run out p (drop h schedule) ≡ whole) where
-  pub schedule_next : h < length schedule → (r : ℕ) (now : List ℕ) → state r now ≡ run out p (get_or schedule h 0 ∷ []) → run now r (drop (h + 1) schedule) ≡ whole
-  schedule_next l r now q = run_then out p (get_or schedule h 0 ∷ []) r now q (drop (h + 1) schedule) ∙ ap (λ (x : List ℕ). run out p x) (sym (rw (drop-cons schedule h 0 l, add-one h))) ∙ e
+module _ {s t : Numbers} {whole : List ℕ} (schedule : List ℕ) (h : ℕ) (e : Leaves s whole t (drop h schedule)) where
+  pub schedule_next : {u : Numbers} → h < length schedule → Adds t (get_or schedule h 0 ∷ []) u → Leaves s whole u (drop (h + 1) schedule)
+  schedule_next l x = leaves_less (rw (drop-cons schedule h 0 l, ← add-one h) at e) x
 
-  pub schedule_done : length schedule ≤ h → state p out ≡ whole
-  schedule_done l = run_none out p ∙ ap (λ (x : List ℕ). run out p x) (sym (drop_all h schedule l)) ∙ e
+  pub schedule_done : length schedule ≤ h → Adds s whole t
+  schedule_done l = leaves_none (rw (drop_all h schedule l) at e)

@@ -7,93 +7,96 @@ ghost use Rattle.std.specs.Prelude.{◌≡◌, [], ◌∷◌, ◌+◌, ◌*◌, 
 ghost use Rattle.tables.specs.Lent.{lent};
 ghost use Rattle.sheet.specs.Written.{cell, placed_of, records, mode_numbers, modes_numbers, sheet_numbers};
 ghost use Rattle.writer.specs.Answers.{Writes};
-ghost use Rattle.writer.specs.Steps.{state, run};
+ghost use Rattle.writer.specs.Steps.{state, run, Adds};
 
 use numbers::refusals::Reason;
 use tables::sheets::{Admitted, Sheet};
 
-// Writes a number from a place on, as far as there is room, and gives the place after it.
-fn write_number(out: &mut [u8], at: usize, value: usize) -> usize
-    requires { at ≤ 1000000 }
-    ensures wrote { state result out.new ≡ run out.old at (value ∷ []) }
-    ensures near { result ≤ at + 4 }
-{
-    at + numbers::put(out, at, value)
+// The numbers of a sheet, written into a lent buffer one after the other, from a place on, as far as there is room.
+#[derive(Drop)]
+struct Numbers<'a> {
+    out: &'a mut [u8],
+    at: usize,
 }
 
-// Writes the record of a window.
-fn write_window(out: &mut [u8], at: usize, n: usize, place: usize, code: usize) -> usize
-    requires { (1 ≤ n) × (n ≤ 12) × (at ≤ 900000) }
-    ensures wrote { state result out.new ≡ run out.old at ((place / (n * n)) ∷ (place / n % n + 1) ∷ (place % n + 1) ∷ code ∷ []) }
-    ensures near { result ≤ at + 16 }
-{
-    let a = write_number(out, at, place / (n * n));
-    let b = write_number(out, a, place / n % n + 1);
-    let c = write_number(out, b, place % n + 1);
-    write_number(out, c, code)
-}
-
-// Writes the record of a table's value, if it says a window.
-fn write_cell(out: &mut [u8], at: usize, n: usize, place: usize, value: i32) -> usize
-    requires { (1 ≤ n) × (n ≤ 12) × (at ≤ 900000) }
-    ensures wrote { state result out.new ≡ run out.old at (records n (cell place value)) }
-    ensures near { result ≤ at + 16 }
-{
-    let absent = tables::is_absent(value);
-    if absent {
-        return at;
+impl<'a> Numbers<'a> {
+    // Writes a number.
+    fn number(&mut self, value: usize)
+        requires { self.old.at ≤ 1000000 }
+        ensures near { self.new.at ≤ self.old.at + 4 }
+        ensures adds { Adds self.old (value ∷ []) self.new }
+    {
+        self.at += numbers::put(self.out, self.at, value);
     }
-    write_window(out, at, n, place, numbers::encode(value) as usize)
-}
 
-// Writes the records of one mode, whose windows these are: kind after kind, then to after to, and from after from.
-fn write_windows(out: &mut [u8], at: usize, n: usize, part: &[i32]) -> usize
-    requires { (1 ≤ n) × (n ≤ 12) × (length part.now ≤ 576) × (at ≤ 200000) }
-    ensures wrote { state result out.new ≡ run out.old at (records n (placed_of 0 part.now)) }
-    ensures near { result ≤ at + 16 * length part.now }
-{
-    let mut p = at;
-    for k in 0..part.len() {
-        p = write_cell(out, p, n, k, part[k]);
+    // Writes the record of a window.
+    fn window(&mut self, n: usize, place: usize, code: usize)
+        requires { (1 ≤ n) × (n ≤ 12) × (self.old.at ≤ 900000) }
+        ensures near { self.new.at ≤ self.old.at + 16 }
+        ensures adds { Adds self.old ((place / (n * n)) ∷ (place / n % n + 1) ∷ (place % n + 1) ∷ code ∷ []) self.new }
+    {
+        self.number(place / (n * n));
+        self.number(place / n % n + 1);
+        self.number(place % n + 1);
+        self.number(code);
     }
-    p
-}
 
-// Writes one mode, whose windows these are.
-fn write_mode(out: &mut [u8], at: usize, n: usize, part: &[i32]) -> usize
-    requires { (1 ≤ n) × (n ≤ 12) × (length part.now ≤ 576) × (at ≤ 100000) }
-    ensures wrote { state result out.new ≡ run out.old at (mode_numbers n part.now) }
-    ensures near { result ≤ at + 9220 }
-{
-    let a = write_number(out, at, tables::count_windows(part));
-    write_windows(out, a, n, part)
-}
-
-// Writes every mode, each from the part of the tables that starts at 4t·n².
-fn write_modes(out: &mut [u8], at: usize, n: usize, m: usize, tables: &[i32]) -> usize
-    requires { (1 ≤ n) × (n ≤ 12) × (m ≤ 8) × (m * (4 * (n * n)) ≤ length tables.now) × (at ≤ 1000) }
-    ensures { state result out.new ≡ run out.old at (modes_numbers n m tables.now) }
-{
-    let size = tables::KINDS * (n * n);
-    let mut p = at;
-    for t in 0..m {
-        let start = t * size;
-        p = write_mode(out, p, n, &tables[start..start + size]);
+    // Writes the record of a table's value, if it says a window.
+    fn cell(&mut self, n: usize, place: usize, value: i32)
+        requires { (1 ≤ n) × (n ≤ 12) × (self.old.at ≤ 900000) }
+        ensures near { self.new.at ≤ self.old.at + 16 }
+        ensures adds { Adds self.old (records n (cell place value)) self.new }
+    {
+        let absent = tables::is_absent(value);
+        if absent {
+            return;
+        }
+        self.window(n, place, numbers::encode(value) as usize);
     }
-    p
-}
 
-// Writes the mode numbers of a schedule.
-fn write_schedule(out: &mut [u8], at: usize, schedule: &[u8]) -> usize
-    requires { (length schedule.now ≤ 16) × (at ≤ 100) }
-    ensures wrote { state result out.new ≡ run out.old at schedule.now }
-    ensures near { result ≤ at + 64 }
-{
-    let mut p = at;
-    for mode in schedule {
-        p = write_number(out, p, usize::from(*mode));
+    // Writes the records of one mode, whose windows these are: kind after kind, then to after to, and from after from.
+    fn windows(&mut self, n: usize, part: &[i32])
+        requires { (1 ≤ n) × (n ≤ 12) × (length part.now ≤ 576) × (self.old.at ≤ 200000) }
+        ensures near { self.new.at ≤ self.old.at + 16 * length part.now }
+        ensures adds { Adds self.old (records n (placed_of 0 part.now)) self.new }
+    {
+        for (k, &value) in part.iter().enumerate() {
+            self.cell(n, k, value);
+        }
     }
-    p
+
+    // Writes one mode, whose windows these are.
+    fn mode(&mut self, n: usize, part: &[i32])
+        requires { (1 ≤ n) × (n ≤ 12) × (length part.now ≤ 576) × (self.old.at ≤ 100000) }
+        ensures near { self.new.at ≤ self.old.at + 9220 }
+        ensures adds { Adds self.old (mode_numbers n part.now) self.new }
+    {
+        self.number(tables::count_windows(part));
+        self.windows(n, part);
+    }
+
+    // Writes every mode, each from the part of the tables that starts at 4t·n².
+    fn modes(&mut self, n: usize, m: usize, tables: &[i32])
+        requires { (1 ≤ n) × (n ≤ 12) × (m ≤ 8) × (m * (4 * (n * n)) ≤ length tables.now) × (self.old.at ≤ 1000) }
+        ensures { Adds self.old (modes_numbers n m tables.now) self.new }
+    {
+        let size = tables::KINDS * (n * n);
+        for t in 0..m {
+            let start = t * size;
+            self.mode(n, &tables[start..start + size]);
+        }
+    }
+
+    // Writes the mode numbers of a schedule.
+    fn schedule(&mut self, schedule: &[u8])
+        requires { (length schedule.now ≤ 16) × (self.old.at ≤ 100) }
+        ensures near { self.new.at ≤ self.old.at + 64 }
+        ensures adds { Adds self.old schedule.now self.new }
+    {
+        for &mode in schedule {
+            self.number(usize::from(mode));
+        }
+    }
 }
 
 // Writes n, m, V and all that follows them, as far as there is room, and gives the sheet's length.
@@ -107,12 +110,14 @@ fn write_all(admitted: &Admitted, out: &mut [u8]) -> usize
         tables,
         schedule,
     } = admitted.sheet;
-    let a = write_number(out, 0, sheet::FORMAT);
-    let b = write_number(out, a, n);
-    let c = write_number(out, b, m);
-    let d = write_number(out, c, positions);
-    let e = write_schedule(out, d, &schedule[..positions]);
-    write_modes(out, e, n, m, tables)
+    let mut numbers = Numbers { out, at: 0 };
+    numbers.number(sheet::FORMAT);
+    numbers.number(n);
+    numbers.number(m);
+    numbers.number(positions);
+    numbers.schedule(&schedule[..positions]);
+    numbers.modes(n, m, tables);
+    numbers.at
 }
 
 // Writes a sheet in memory as its one file, and gives its length. The first walk has no room to write and gives the

@@ -30,5 +30,5 @@ loop-times-preserved c = let i = c.loop-times.invariant in
       rows_more _ _ _ i.3 (rw (← met_row i.1 x _ s.1.0 long) e.adds),
     )
 
-pub returns : goal.returns
-returns c = let i = c.loop-times.invariant in rw (met_all i.1 (omega (arith, c.in-None.ensures.steps, i.0))) i.3
+pub returns-clause-adds : goal.returns-clause-adds
+returns-clause-adds c = let i = c.loop-times.invariant in rw (met_all i.1 (omega (arith, c.in-None.ensures.steps, i.0))) i.3

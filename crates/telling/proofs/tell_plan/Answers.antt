@@ -20,4 +20,4 @@ unreachable-requires c = let a = c.ask in asked_refuted _ _ _ c.requires.0 _ _ r
 
 pub returns : goal.returns
 returns c = let a = c.ask in
-    asked_plan _ _ _ c.requires.0 _ _ refl refl a.result _ _ a.ensures _ (c.unwrap.ensures ∙ ap Ok c.in-Accepted.is) a.auto.plan c.put_plan.ensures
+    asked_plan _ _ _ c.requires.0 _ _ refl refl a.result _ _ a.ensures _ (c.unwrap.ensures ∙ ap Ok c.in-Accepted.is) a.auto.plan c.put_plan.ensures.adds
