@@ -3,7 +3,7 @@ use mathlib.Core.Path.{◌≡◌, refl, sym, ap, subst, ◌∙◌}
 use mathlib.Core.Logic.{◌≢◌}
 use mathlib.Core.Bool.{Bool, true, false, cond}
 use mathlib.Core.List.{List, [], ◌∷◌}
-use Prim.Native.Nat.{ℕ, zero, suc, ◌+◌, ◌-◌, ◌*◌, ◌≤◌, ◌<◌}
+use Prim.Native.Nat.{ℕ, zero, suc, ◌+◌, ◌-◌, ◌*◌, ◌≤◌, ◌<◌, min}
 use native.Mathlib.Omega.{arith}
 use native.Mathlib.Decide.{dec_lt}
 use lib.ListN.{length, get_or, set}
@@ -181,11 +181,12 @@ module _ (step : ℕ → ℕ) (u : ℕ) where
             ];
           }
 
-      pub going_less : x < least → Going x (count + 1) w
-      going_less h = on x count (omega arith) g.there (omega arith) (omega arith)
-
-      pub going_more : least ≤ x → Going least (count + 1) w
-      going_more h = on least g.at (omega (arith, g.below)) g.is (omega arith) h
+      -- the smallest of the nodes passed is then the lesser of the smallest so far and this one
+      pub going_on : (low : ℕ) → low ≡ min least x → Going low (count + 1) w
+      going_on low e = elim (dec_lt x least) [
+        | yes h ↦ let e' : x ≡ low = omega (arith, e) in on low count (omega arith) (g.there ∙ e') (omega arith) (omega arith)
+        | no h ↦ let e' : least ≡ low = omega (arith, e) in on low g.at (omega (arith, g.below)) (g.is ∙ e') (omega arith) (omega arith)
+      ]
 
 -- ---- once round from the node that was met
 

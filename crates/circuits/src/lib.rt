@@ -53,10 +53,7 @@ fn go_round(marks: &Marks, u: usize) -> Ring
     let mut count: usize = 1;
     let mut x = departure(marks.row[u]);
     while x != u {
-        let is_less = x < least;
-        if is_less {
-            least = x;
-        }
+        least = least.min(x);
         count += 1;
         x = departure(marks.row[x]);
     }

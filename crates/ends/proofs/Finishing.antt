@@ -29,7 +29,7 @@ use Rattle.search.specs.declared.Stand.{Stand}
 use Rattle.search.specs.declared.NoTime.{NoTime}
 use Rattle.weights.proofs.Held.{count_few}
 use Rattle.search.proofs.Climbing.{copied_starts}
-use Rattle.calls.proofs.Ends.Refusals.{Granted, granted}
+use Rattle.calls.proofs.Ends.Refusals.{Granted, granted, refused_none}
 use Rattle.calls.proofs.Ends.Found.{range_runs, never_runs}
 
 -- ---- circuits handed over
@@ -72,14 +72,13 @@ module _ (s : Sheet) (first₀ second₀ : List ℕ) (unrefused : ends_refusal s
 
 -- ---- high, where low is known
 
-module _ (s : Sheet) (at : Stand) (room found second₀ : List ℕ) (h : HighReady s at room found second₀) where
+module _ (s : Sheet) (admitted : refusal s ≡ 0) (at : Stand) (room found second₀ : List ℕ) (h : HighReady s at room found second₀) where
   known : Admitted s
-  known = accepted s h.admitted
+  known = accepted s admitted
 
   pub high_overhead : Overhead s at room found
   high_overhead =
       record {
-        admitted = h.admitted;
         positive = h.low.positive;
         small = omega (arith, h.low.small, mul-le-mul_right 1000000 (nodes_few s known));
         works = h.works;
@@ -103,7 +102,7 @@ module _ (s : Sheet) (at : Stand) (room found second₀ : List ℕ) (h : HighRea
 
   module _ (top : Stand) (room' found' : List ℕ) (r : Rests s top room' found') where
     pub high_fits : RoomFor top.arcs room' second₀
-    high_fits = hand_ready s room' top.arcs second₀ h.admitted r.held.held r.high_room h.second_room
+    high_fits = hand_ready s room' top.arcs second₀ admitted r.held.held r.high_room h.second_room
 
     pub high_up_to : (second : List ℕ) → second ≡ copied room' (4 * top.arcs) second₀ → HighFound s at second₀ (Some top) second
     high_up_to second e =
@@ -122,27 +121,29 @@ module _ (s : Sheet) (at : Stand) (room found second₀ : List ℕ) (h : HighRea
 
 -- ---- both
 
-module _ (s : Sheet) (at : Stand) (low found first₀ second₀ : List ℕ) (h : LowReady s at low found first₀ second₀) where
+module _ (s : Sheet) (admitted : refusal s ≡ 0) (at : Stand) (low found first₀ second₀ : List ℕ) (h : LowReady s at low found first₀ second₀) where
+  unrefused : ends_refusal s first₀ second₀ ≡ 0
+  unrefused = refused_none s first₀ second₀ (sym admitted) h.has_room
+
   pub low_fits : RoomFor at.arcs low first₀
-  low_fits = hand_ready s low at.arcs first₀ h.stands.admitted h.stands.held.held h.stands.low_room (granted s first₀ second₀ h.unrefused).first_room
+  low_fits = hand_ready s low at.arcs first₀ admitted h.stands.held.held h.stands.low_room (granted s first₀ second₀ unrefused).first_room
 
   pub low_high : HighReady s at low found second₀
   low_high =
       record {
-        admitted = h.stands.admitted;
         works = h.works;
         circuit = held_arcs s h.stands.held.held;
         low = h.stands.held.low;
         high_room = h.stands.low_room;
         found_room = h.stands.found_room;
-        second_room = (granted s first₀ second₀ h.unrefused).second_room;
+        second_room = (granted s first₀ second₀ unrefused).second_room;
       }
 
   pub finds : (first : List ℕ) → first ≡ copied low (4 * at.arcs) first₀ → (r : Option Stand) (second : List ℕ) → HighFound s at second₀ r second
       → Outcome s first₀ second₀ (ended (code.Found at r)) first second
   finds first e r second f =
       let held = h.stands.held.held in
-      ends.found at.time.top at.time.bottom (highest r) held.steps f.steps (found_answer_lem at r _ _ held.counted f.counted) h.unrefused
+      ends.found at.time.top at.time.bottom (highest r) held.steps f.steps (found_answer_lem at r _ _ held.counted f.counted) unrefused
       (record {
         range = f.range;
         bottom_small = h.stands.held.low.few;
@@ -169,16 +170,19 @@ pub climbs_none : (s : Sheet) (r : Result Stand NoTime) (low found : List ℕ) �
     → NoneHeld s low none.first found none.second × (length low ≡ 768) × (length found ≡ 768)
 climbs_none s r low found d none e = subst (λ (x : Result Stand NoTime). Climbs s x low found) e d
 
-module _ (s : Sheet) (low₀ found₀ first second : List ℕ) (f : FindReady s low₀ found₀ first second) where
-  room : Granted s first second
-  room = granted s first second f.unrefused
+module _ (s : Sheet) (admitted : refusal s ≡ 0) (low₀ found₀ first second : List ℕ) (f : FindReady s low₀ found₀ first second) where
+  pub find_unrefused : ends_refusal s first second ≡ 0
+  find_unrefused = refused_none s first second (sym admitted) f.has_room
 
-  pub find_fresh : Starting s low₀ found₀
-  find_fresh = record { admitted = room.admitted; low_room = f.low_room; found_room = f.found_room }
+  room : Granted s first second
+  room = granted s first second find_unrefused
+
+  pub find_fresh : Starting low₀ found₀
+  find_fresh = record { low_room = f.low_room; found_room = f.found_room }
 
   pub find_low : (at : Stand) (low found : List ℕ) → Works (arcs s) at.time.top at.time.bottom × LowStands s at low found → LowReady s at low found first second
-  find_low at low found w = record { unrefused = f.unrefused; works = w.0; stands = w.1 }
+  find_low at low found w = record { has_room = f.has_room; works = w.0; stands = w.1 }
 
   pub none_fit : (count₁ count₂ : ℕ) (low found : List ℕ) → NoneHeld s low count₁ found count₂ × (length low ≡ 768) × (length found ≡ 768) → RoomFor count₁ low first × RoomFor count₂ found second
   none_fit count₁ count₂ low found o =
-      (hand_ready s low count₁ first room.admitted o.0.held₁ o.1 room.first_room, hand_ready s found count₂ second room.admitted o.0.held₂ o.2 room.second_room)
+      (hand_ready s low count₁ first admitted o.0.held₁ o.1 room.first_room, hand_ready s found count₂ second admitted o.0.held₂ o.2 room.second_room)

@@ -1,15 +1,15 @@
 -- What the call answers, as document 01 has it: "Where an answer is an enum, a definition gives this paper's number and values for each case."
-use Rattle.std.specs.Prelude.{◌≡◌, List, [], ◌∷◌, map, ℕ, ◌*◌, ◌≤◌, length, Option, None, Some, Result, Ok, Err}
+use Rattle.std.specs.Prelude.{◌≡◌, true, List, [], ◌∷◌, map, ℕ, ◌*◌, ◌≤◌, length, Option, None, Some, Result, Ok, Err}
 use Rattle.theory.specs.Arcs.{Arc, Works}
 use Rattle.theory.specs.Ends as theory
 use Rattle.theory.specs.Found.{Low}
-use Rattle.tables.specs.Sheets.{Sheet, refusal}
+use Rattle.tables.specs.Sheets.{Sheet}
 use Rattle.tables.specs.Answers.{Answer, answer}
 use Rattle.windows.specs.Inequalities.{Runs}
 use Rattle.windows.specs.Arcs.{nodes, arcs}
 use Rattle.windows.specs.Circuits.{Step, step_arc}
 use Rattle.calls.specs.Circuits.{onto, CircuitOrNone}
-use Rattle.calls.specs.Ends.{ends_refusal}
+use Rattle.calls.specs.Ends.{roomy}
 use Rattle.search.specs.Searches.{LowStands}
 use Rattle.numbers.specs.declared.refusals.Reason.{Reason}
 use Rattle.numbers.specs.Refusals.{number_of}
@@ -42,23 +42,22 @@ abbrev pub arcs_of : Option Stand → ℕ
 arcs_of None = 0
 arcs_of (Some at) = at.arcs
 
--- ---- what the private steps promise each other
+-- ---- what the private steps promise each other, of an admitted sheet
 
--- no refusal fits, and there is room for two circuits
+-- there is room for two circuits, where they are found and where they go
 pub record FindReady (s : Sheet) (low found first second : List ℕ) : Type 0 where
-  pub unrefused : ends_refusal s first second ≡ 0
+  pub has_room : roomy s first second ≡ true
   pub low_room : length low ≡ 768
   pub found_room : length found ≡ 768
 
 -- low is known, with its circuit
 pub record LowReady (s : Sheet) (at : Stand) (low found first second : List ℕ) : Type 0 where
-  pub unrefused : ends_refusal s first second ≡ 0
+  pub has_room : roomy s first second ≡ true
   pub works : Works (arcs s) at.time.top at.time.bottom
   pub stands : LowStands s at low found
 
 -- low is known, and its circuit handed over
 pub record HighReady (s : Sheet) (at : Stand) (room found second : List ℕ) : Type 0 where
-  pub admitted : refusal s ≡ 0
   pub works : Works (arcs s) at.time.top at.time.bottom
   pub circuit : List Arc
   pub low : Low (nodes s) 1000000 s.n (arcs s) at.time.top at.time.bottom circuit

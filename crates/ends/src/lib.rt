@@ -3,15 +3,15 @@
 // It renders document 01's "Ends" and the line on Ends in "Numbers a call can answer".
 #![tactic(auto)]
 
-ghost use Rattle.std.specs.Prelude.{◌≡◌, length};
+ghost use Rattle.std.specs.Prelude.{◌≡◌, true};
 ghost use Rattle.tables.specs.Lent.{lent};
-ghost use Rattle.calls.specs.Ends.{ends_refusal, Outcome};
+ghost use Rattle.calls.specs.Ends.{roomy, Outcome};
 ghost use Rattle.ends.specs.Answers.{ended, answer_ended, FindReady, LowReady, HighReady, HighFound};
 
 use numbers::refusals::Reason;
 use search::buffers::copy;
 use search::{NoTime, Stand};
-use tables::sheets::Sheet;
+use tables::sheets::{Admitted, Sheet};
 
 // The lowest cycle time, and the highest, if there is one, each with the arc count of the circuit that shows it; or that none works.
 #[derive(Clone, Copy, Debug, PartialEq, Eq)]
@@ -22,52 +22,52 @@ pub enum Ended {
 
 // Where low is known: finds high, and hands its circuit over, if there is one.
 fn find_high(
-    sheet: &Sheet,
+    admitted: &Admitted,
     low: Stand,
     room: &mut [u8],
     found: &mut [u8],
     second: &mut [u8],
 ) -> Option<Stand>
-    requires { HighReady (lent sheet.now) low room.old found.old second.old }
-    ensures { HighFound (lent sheet.now) low second.old result second.new }
+    requires { HighReady (lent admitted.now.sheet) low room.old found.old second.old }
+    ensures { HighFound (lent admitted.now.sheet) low second.old result second.new }
 {
-    let high = search::descend(sheet, low, room, found)?;
+    let high = search::descend(admitted, low, room, found)?;
     copy(room, high.arcs, second);
     Some(high)
 }
 
 // Where low is known: hands its circuit over, whose room is then free for high's.
 fn finish_low(
-    sheet: &Sheet,
+    admitted: &Admitted,
     at: Stand,
     low: &mut [u8],
     found: &mut [u8],
     first: &mut [u8],
     second: &mut [u8],
 ) -> Ended
-    requires { LowReady (lent sheet.now) at low.old found.old first.old second.old }
-    ensures { Outcome (lent sheet.now) first.old second.old (ended result) first.new second.new }
+    requires { LowReady (lent admitted.now.sheet) at low.old found.old first.old second.old }
+    ensures { Outcome (lent admitted.now.sheet) first.old second.old (ended result) first.new second.new }
 {
     copy(low, at.arcs, first);
     Ended::Found {
         low: at,
-        high: find_high(sheet, at, low, found, second),
+        high: find_high(admitted, at, low, found, second),
     }
 }
 
 // Searches in room of the work's own, and hands the circuits over.
 fn find(
-    sheet: &Sheet,
+    admitted: &Admitted,
     low: &mut [u8],
     found: &mut [u8],
     first: &mut [u8],
     second: &mut [u8],
 ) -> Ended
-    requires { FindReady (lent sheet.now) low.old found.old first.old second.old }
-    ensures { Outcome (lent sheet.now) first.old second.old (ended result) first.new second.new }
+    requires { FindReady (lent admitted.now.sheet) low.old found.old first.old second.old }
+    ensures { Outcome (lent admitted.now.sheet) first.old second.old (ended result) first.new second.new }
 {
-    match search::climb(sheet, low, found) {
-        Ok(at) => finish_low(sheet, at, low, found, first, second),
+    match search::climb(admitted, low, found) {
+        Ok(at) => finish_low(admitted, at, low, found, first, second),
         Err(none) => {
             copy(low, none.first, first);
             copy(found, none.second, second);
@@ -77,13 +77,13 @@ fn find(
 }
 
 // Makes the room of the work's own: two circuits.
-fn settle(sheet: &Sheet, first: &mut [u8], second: &mut [u8]) -> Ended
-    requires { ends_refusal (lent sheet.now) first.old second.old ≡ 0 }
-    ensures { Outcome (lent sheet.now) first.old second.old (ended result) first.new second.new }
+fn settle(admitted: &Admitted, first: &mut [u8], second: &mut [u8]) -> Ended
+    requires { roomy (lent admitted.now.sheet) first.old second.old ≡ true }
+    ensures { Outcome (lent admitted.now.sheet) first.old second.old (ended result) first.new second.new }
 {
     let mut low = [0; tables::CIRCUIT];
     let mut found = [0; tables::CIRCUIT];
-    find(sheet, &mut low, &mut found, first, second)
+    find(admitted, &mut low, &mut found, first, second)
 }
 
 // The lowest and highest cycle time, with circuits that show them, four numbers an arc, in the first places of the two buffers; or none, with
@@ -91,10 +91,10 @@ fn settle(sheet: &Sheet, first: &mut [u8], second: &mut [u8]) -> Ended
 pub fn ends(sheet: &Sheet, first: &mut [u8], second: &mut [u8]) -> Result<Ended, Reason>
     ensures { Outcome (lent sheet.now) first.old second.old (answer_ended result) first.new second.new }
 {
-    sheet.admit()?;
+    let admitted = sheet.admit()?;
     let numbers = 4 * (sheet.positions * sheet.n);
     if !tables::is_roomy(numbers, first.len(), numbers, second.len()) {
         return Err(Reason::Room);
     }
-    Ok(settle(sheet, first, second))
+    Ok(settle(&admitted, first, second))
 }

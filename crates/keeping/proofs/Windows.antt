@@ -11,7 +11,8 @@ use native.Mathlib.Numerals.{add-one}
 use borrow.Author.Tests.{leb-true, le-leb}
 use lib.Dec.{leb}
 use lib.IntN.{ℤ, pos}
-use lib.ListN.{get_or, drop}
+use lib.ListN.{get_or, take, length}
+use Rattle.std.proofs.lemmas.List.{length-drop, length-take-le}
 use Rattle.theory.specs.Arcs.{rise, fall, Holds}
 use Rattle.theory.proofs.Sums.{rise_bound, fall_bound}
 use Rattle.tables.proofs.Laws.{clash}
@@ -30,14 +31,14 @@ use Rattle.windows.proofs.Limits.{number_small, sheet_laid, nodes_few}
 use Rattle.edges.specs.declared.Edge.{Edge}
 use Rattle.edges.specs.declared.lines.Line.{Line}
 use Rattle.edges.specs.Edges.{from_place}
-use Rattle.edges.proofs.Places.{as_record, kind_few, kind_at, to_at, from_at, value_at}
+use Rattle.edges.proofs.Places.{as_record, sizes, kind_few, kind_at, to_at, from_at, value_at}
 use Rattle.edges.proofs.Edges.{weighed, edge_is}
 use Rattle.calls.specs.ProposedTimes as proposal
 use Rattle.calls.specs.ProposedTimes.{times_refusal, Before, proposed, Broken, Outcome}
 use Rattle.calls.proofs.ProposedTimes.Kept.{none_kept}
 use Rattle.calls.proofs.ProposedTimes.Refusals.{in_reach_lem, times_granted, TimesGranted}
 use Rattle.keeping.specs.Answers.{answer_held}
-use Rattle.keeping.specs.Breaks.{lifted_at, arc_at, keeps_at, breaks_at, breaks, Reach, First, broken_at}
+use Rattle.keeping.specs.Breaks.{lifted_at, arc_at, keeps_at, breaks_at, part_at, breaks, Reach, First, broken_at}
 use Rattle.keeping.specs.declared.TimesHeld.TheVariants.{Accepted}
 
 -- ---- the window of a place
@@ -97,10 +98,6 @@ module _ (line : Line) (times : List ℤ) (none : times_refusal (lent line.sheet
   some_positions : 0 < line.sheet.positions
   some_positions = granted.sheet_ok.size.some_positions
 
-  -- the part of the mode at the position g + 1
-  abbrev pub part : ℕ → List ℤ
-  part g = drop (get_or line.sheet.schedule.now g 0 * (4 * (n * n))) line.sheet.tables.now
-
   -- the test of a place
   abbrev test : ℕ → ℕ → Bool
   test g k = breaks line times g k
@@ -108,6 +105,16 @@ module _ (line : Line) (times : List ℤ) (none : times_refusal (lent line.sheet
   module _ (g : ℕ) (h : g < line.sheet.positions) where
     mode_is : mode s (suc g) ≡ get_or line.sheet.schedule.now g 0
     mode_is = ap (λ (x : ℕ). get_or line.sheet.schedule.now x 0) (mod-eq_of_lt h)
+
+    -- THEOREM: the part lies in the tables
+    pub part_few : get_or line.sheet.schedule.now g 0 * (4 * (n * n)) + 4 * (n * n) ≤ 4608
+    part_few = let fit = sizes (get_or line.sheet.schedule.now g 0) line.sheet.m n granted.sheet_ok.size.few_events granted.sheet_ok.size.few_modes (granted.sheet_ok.modes g h) in omega (arith, fit.part, fit.whole)
+
+    pub part_inside : get_or line.sheet.schedule.now g 0 * (4 * (n * n)) + 4 * (n * n) ≤ length line.sheet.tables.now
+    part_inside = let fit = sizes (get_or line.sheet.schedule.now g 0) line.sheet.m n granted.sheet_ok.size.few_events granted.sheet_ok.size.few_modes (granted.sheet_ok.modes g h) in omega (arith, fit.part, granted.sheet_ok.size.long_tables)
+
+    pub part_long : length (take (4 * (n * n)) (part_at line g)) ≡ 4 * (n * n)
+    part_long = length-take-le (4 * (n * n)) (part_at line g) (rw (length-drop (get_or line.sheet.schedule.now g 0 * (4 * (n * n))) line.sheet.tables.now) (omega (arith, part_inside)))
 
     module _ (k : Kind) (i j : ℕ) (to : i < n) (from : j < n) where
       abbrev w : ℤ
@@ -119,7 +126,7 @@ module _ (line : Line) (times : List ℤ) (none : times_refusal (lent line.sheet
       abbrev step : Step
       step = record { kind = k; position = suc g; to = suc i; from = suc j }
 
-      value_is : get_or (part g) (place_of n k i j) (pos 0) ≡ w
+      value_is : get_or (part_at line g) (place_of n k i j) (pos 0) ≡ w
       value_is = value_at s (get_or line.sheet.schedule.now g 0) (granted.sheet_ok.modes g h) granted.sheet_ok.size.long_tables k i j to from ∙ ap (λ (t : ℕ). entry s t k (suc i) (suc j)) (sym mode_is)
 
       arc_is : arc_at line g (from_place n (place_of n k i j) w) ≡ weighed line.time.top line.time.bottom (arc_of s (suc g) window)
@@ -203,10 +210,10 @@ module _ (line : Line) (times : List ℤ) (none : times_refusal (lent line.sheet
           back_again b = let e = some_absent w b.present.present in test_is e ∙ ap not (over _ refl e b.breaks)
 
     -- THEOREM: the test of a place rests on times in reach
-    pub spreads : (k : ℕ) → k < 4 * (n * n) → absent (get_or (part g) k (pos 0)) ≡ false → Reach (arc_at line g (from_place n k (get_or (part g) k (pos 0)))) times
+    pub spreads : (k : ℕ) → k < 4 * (n * n) → absent (get_or (part_at line g) k (pos 0)) ≡ false → Reach (arc_at line g (from_place n k (get_or (part_at line g) k (pos 0)))) times
     spreads k below e =
         let x = placed n k granted.sheet_ok.size.some_events below in
-        let v = ap (λ (i : ℕ). get_or (part g) i (pos 0)) x.is ∙ value_is x.kind x.to x.from x.to_few x.from_few in
+        let v = ap (λ (i : ℕ). get_or (part_at line g) i (pos 0)) x.is ∙ value_is x.kind x.to x.from x.to_few x.from_few in
         subst (λ (a : Edge). Reach a times) (sym (ap₂ (λ (i : ℕ) (z : ℤ). arc_at line g (from_place n i z)) x.is v ∙ arc_is x.kind x.to x.from x.to_few x.from_few))
         (reach x.kind x.to x.from x.to_few x.from_few (sym (ap absent v) ∙ e))
 

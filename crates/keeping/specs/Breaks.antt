@@ -31,10 +31,13 @@ keeps_at line g w times = let e = arc_at line g w in leb (lifted_at times e.depa
 unfoldable pub breaks_at : Line → ℕ → ℕ → ℤ → List ℤ → Bool
 breaks_at line g k value times = cond (absent value) false (not (keeps_at line g (from_place line.sheet.n k value) times))
 
--- the place k of the part of the mode at the position g + 1 is broken
+-- the part of the tables of the mode at the position g + 1, and what comes after it
+abbrev pub part_at : Line → ℕ → List ℤ
+part_at line g = drop (get_or line.sheet.schedule.now g 0 * (4 * (line.sheet.n * line.sheet.n))) line.sheet.tables.now
+
+-- the place k of that part is broken
 abbrev pub breaks : Line → List ℤ → ℕ → ℕ → Bool
-breaks line times g k =
-    breaks_at line g k (get_or (drop (get_or line.sheet.schedule.now g 0 * (4 * (line.sheet.n * line.sheet.n))) line.sheet.tables.now) k (pos 0)) times
+breaks line times g k = breaks_at line g k (get_or (part_at line g) k (pos 0)) times
 
 -- ---- what a test rests on
 

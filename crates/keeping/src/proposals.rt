@@ -1,9 +1,9 @@
 // Times that are not refused, and the search for the first window that they break.
-ghost use Rattle.std.specs.Prelude.{◌≡◌, true, ◌*◌, ◌≤◌, ◌<◌};
+ghost use Rattle.std.specs.Prelude.{◌≡◌, true, ◌*◌, ◌≤◌, ◌<◌, pos, get_or, take};
 ghost use Rattle.tables.specs.Lent.{lent};
 ghost use Rattle.calls.specs.ProposedTimes.{in_reach, times_refusal, Outcome};
 ghost use Rattle.keeping.specs.Answers.{answer_held};
-ghost use Rattle.keeping.specs.Breaks.{lift, keeps_at, arc_at, breaks, Reach, Finds, broken_at};
+ghost use Rattle.keeping.specs.Breaks.{lift, keeps_at, arc_at, part_at, breaks, Reach, Finds, broken_at};
 
 use crate::{REACH, TimesHeld};
 use edges::Record;
@@ -38,33 +38,42 @@ impl<'s, 't> Proposal<'s, 't> {
         departure + arc.rise <= arrival + arc.fall
     }
 
-    // Whether the place k of the part of the mode at the position g + 1 has a window that the times break.
-    fn is_broken(&self, g: usize, k: usize) -> bool
-        requires { (g < self.now.line.sheet.positions) × (k < 4 * (self.now.line.sheet.n * self.now.line.sheet.n)) }
+    // Whether the place k of the part of the mode at the position g + 1, where the value stands, has a window that the times break.
+    fn is_broken(&self, g: usize, k: usize, value: i32) -> bool
+        requires place { (g < self.now.line.sheet.positions) × (k < 4 * (self.now.line.sheet.n * self.now.line.sheet.n)) }
+        requires stands { value ≡ get_or (part_at self.now.line g) k (pos 0) }
         ensures { result ≡ breaks self.now.line self.now.times.now g k }
     {
-        let sheet = self.line.sheet;
-        let n = sheet.n;
-        let first = usize::from(sheet.schedule[g]) * (tables::KINDS * (n * n));
-        let value = sheet.tables[first + k];
         if tables::is_absent(value) {
             return false;
         }
-        !self.is_kept(g, edges::from_place(n, k, value))
+        !self.is_kept(g, edges::from_place(self.line.sheet.n, k, value))
     }
 
     // The first place of the part of the mode at the position g + 1 that has a window which the times break.
-    fn first_at(&self, g: usize) -> Option<usize>
-        requires { g < self.now.line.sheet.positions }
+    fn first_broken(&self, g: usize, part: &[i32]) -> Option<usize>
+        requires inside { g < self.now.line.sheet.positions }
+        requires part { part.now ≡ take (4 * (self.now.line.sheet.n * self.now.line.sheet.n)) (part_at self.now.line g) }
         ensures { Finds (breaks self.now.line self.now.times.now g) (4 * (self.now.line.sheet.n * self.now.line.sheet.n)) result }
     {
-        let n = self.line.sheet.n;
-        for k in 0..tables::KINDS * (n * n) {
-            if self.is_broken(g, k) {
+        for (k, &value) in part.iter().enumerate() {
+            if self.is_broken(g, k, value) {
                 return Some(k);
             }
         }
         None
+    }
+
+    // The first place broken at the position g + 1, in its mode's part of the tables: a slice that begins in their middle.
+    fn first_at(&self, g: usize) -> Option<usize>
+        requires { g < self.now.line.sheet.positions }
+        ensures { Finds (breaks self.now.line self.now.times.now g) (4 * (self.now.line.sheet.n * self.now.line.sheet.n)) result }
+    {
+        let sheet = self.line.sheet;
+        let size = tables::KINDS * (sheet.n * sheet.n);
+        let first = usize::from(sheet.schedule[g]) * size;
+        let part = &sheet.tables[first..first + size];
+        self.first_broken(g, part)
     }
 
     // Goes through the positions, and through each one's windows in their order.

@@ -54,7 +54,7 @@ fn kind_at(file: &[u8], at: usize) -> Result<Number, Refusal>
     ensures { read result ≡ tested (λ kind. leb kind 3) 6 (number_at file.now at) }
 {
     let kind = numbers::number_at(file, at)?;
-    // A `match` with a range for the kinds that are refused: this repository decides so on every number that names a kind.
+    // A `match` with a range for the kinds that are refused: document 01 names this form.
     match kind.value {
         0 | 1 | 2 | 3 => Ok(kind),
         4.. => Err(Refusal {

@@ -5,7 +5,7 @@ use Prim.Native.Nat.{ℕ, ◌*◌}
 use native.Mathlib.Omega.{arith}
 use native.Mathlib.Nat.{mul-le-mul_right}
 use lib.ListN.{length, drop, length-append, length-drop}
-use Rattle.tables.specs.Sheets.{Sheet}
+use Rattle.tables.specs.Sheets.{Sheet, refusal}
 use Rattle.tables.specs.Admitted.{Admitted}
 use Rattle.tables.proofs.Laws.{accepted}
 use Rattle.windows.specs.Circuits.{Step, numbers}
@@ -30,12 +30,12 @@ use Rattle.numbers.specs.Refusals.{number_of}
 use Rattle.weights.proofs.Held.{count_few}
 use Rattle.search.proofs.Climbing.{beats_lists}
 
-module _ (s : Sheet) (at : Stand) (found₀ : List ℕ) (r : Ready s at found₀) where
+module _ (s : Sheet) (admitted : refusal s ≡ 0) (at : Stand) (found₀ : List ℕ) (r : Ready at found₀) where
   ok : Admitted s
-  ok = accepted s r.admitted
+  ok = accepted s admitted
 
   refused_not : (plan : List ℕ) → length plan ≡ 192 → ask_refusal s at.time.top at.time.bottom plan found₀ ≡ 0
-  refused_not plan long = unrefused s r.admitted plan found₀ long r.room at.time.top at.time.bottom r.some r.few r.small
+  refused_not plan long = unrefused s admitted plan found₀ long r.room at.time.top at.time.bottom r.some r.few r.small
 
   -- a refutation leaves its circuit at the front
   shows_beats : (plan₀ plan found : List ℕ) (steps : List Step) (count : ℕ) → length steps ≡ count → Shows s at.time.top at.time.bottom plan₀ found₀ steps plan found → Beats s at.time.top at.time.bottom found count
@@ -50,7 +50,7 @@ module _ (s : Sheet) (at : Stand) (found₀ : List ℕ) (r : Ready s at found₀
         length-append (numbers steps) (drop (4 * length steps) found₀),
         length-drop (4 * length steps) found₀,
         numbers_length steps,
-        count_few s r.admitted steps (drop (4 * length steps) found₀) found (length steps) h.refutes.circuit refl h.circuit_is,
+        count_few s admitted steps (drop (4 * length steps) found₀) found (length steps) h.refutes.circuit refl h.circuit_is,
         nodes_few s ok,
         r.room,
       )
@@ -67,12 +67,11 @@ module _ (s : Sheet) (at : Stand) (found₀ : List ℕ) (r : Ready s at found₀
   asks (Err reason) plan₀ plan found long o = let is = refused_is (number_of reason) o in absurd (is.1 (sym is.0 ∙ refused_not plan₀ long))
 
 -- where the climb stands, Ask may be asked
-pub stands_ready : (s : Sheet) (at : Stand) (low found : List ℕ) → LowStands s at low found → Ready s at found
-stands_ready s at low found h =
-    let ok = accepted s h.admitted in
+pub stands_ready : (s : Sheet) → refusal s ≡ 0 → (at : Stand) (low found : List ℕ) → LowStands s at low found → Ready at found
+stands_ready s admitted at low found h =
+    let ok = accepted s admitted in
     let l = h.held.low in
     record {
-      admitted = h.admitted;
       some = l.positive;
       few = omega (arith, l.few, ok.size.few_events);
       small = omega (arith, l.small, nodes_few s ok, mul-le-mul_right 1000000 (nodes_few s ok));
@@ -80,12 +79,12 @@ stands_ready s at low found h =
     }
 
 -- the answer, with the sums of the circuit that refutes
-module _ (s : Sheet) (at : Stand) (found₀ : List ℕ) (r : Ready s at found₀) (a : Asked) (found : List ℕ) (answered : Asks s at a found) where
+module _ (s : Sheet) (admitted : refusal s ≡ 0) (at : Stand) (a : Asked) (found : List ℕ) (answered : Asks s at a found) where
   pub judged_works : (rounds : ℕ) → a ≡ asked.Accepted rounds → Judged s at None found
   judged_works rounds e = subst (λ (x : Asked). Asks s at x found) e answered
 
   pub judged_lists : (count : ℕ) → a ≡ asked.Refuted count → Lists s found count
-  judged_lists count e = beats_lists s r.admitted at.time.top at.time.bottom found count (subst (λ (x : Asked). Asks s at x found) e answered).0
+  judged_lists count e = beats_lists s admitted at.time.top at.time.bottom found count (subst (λ (x : Asked). Asks s at x found) e answered).0
 
   pub judged_above : (count : ℕ) → a ≡ asked.Refuted count → (w : Weight) → w ≡ weights_in s found count → Judged s at (Some (record { weight = w; arcs = count })) found
   judged_above count e w weighed = let o = subst (λ (x : Asked). Asks s at x found) e answered in (o.0, weighed, o.1)

@@ -9,11 +9,10 @@ use Rattle.theory.specs.Arcs.{Works}
 use Rattle.theory.specs.Ends.{Under}
 use Rattle.theory.proofs.Fractions.{floors}
 use Rattle.theory.proofs.Found.{descend_less}
-use Rattle.tables.specs.Sheets.{Sheet}
+use Rattle.tables.specs.Sheets.{Sheet, refusal}
 use Rattle.tables.proofs.Laws.{accepted}
 use Rattle.windows.specs.Arcs.{nodes, arcs}
 use Rattle.windows.proofs.Limits.{sheet_laid, nodes_few}
-use Rattle.limits.specs.declared.Weight.{Weight}
 use Rattle.search.specs.Copies.{RoomFor}
 use Rattle.search.specs.Climbs.{HighHeld, held_arcs}
 use Rattle.search.specs.Searches.{Judged, Turns, Falls, Hangs, HighStands, Rests, Overhead}
@@ -28,15 +27,14 @@ abbrev pub to_descend : Sheet → Stand → ℕ
 to_descend s at = floors at.time.top at.time.bottom s.n
 
 -- where a circuit's limit is held, over what works, the descent stands
-pub high_stands : (s : Sheet) (at next : Stand) (high₀ found₀ high found : List ℕ) → Hangs s at high₀ found₀ → HighHeld s high next.time.top next.time.bottom next.arcs → length high ≡ 768 → length found ≡ 768
+pub high_stands : (s : Sheet) → refusal s ≡ 0 → (at next : Stand) (high₀ found₀ high found : List ℕ) → Hangs s at high₀ found₀ → HighHeld s high next.time.top next.time.bottom next.arcs → length high ≡ 768 → length found ≡ 768
     → HighStands s next high found
-high_stands s at next high₀ found₀ high found h held room room' =
-    let ok = accepted s h.ready.admitted in
+high_stands s admitted at next high₀ found₀ high found h held room room' =
+    let ok = accepted s admitted in
     let t = held.top_is in
     record {
       hangs = record {
         ready = record {
-          admitted = h.ready.admitted;
           some = t.positive;
           few = omega (arith, t.few, ok.size.few_events);
           small = omega (arith, t.small, mul-le-mul_right 1000000 (nodes_few s ok));
@@ -51,31 +49,31 @@ high_stands s at next high₀ found₀ high found h held room room' =
 pub fall_works : (s : Sheet) (at : Stand) (v : Option Above) (found : List ℕ) → Judged s at v found → v ≡ None → Works (arcs s) at.time.top at.time.bottom × (length found ≡ 768)
 fall_works s at v found judged e = subst (λ (x : Option Above). Judged s at x found) e judged
 
-module _ (s : Sheet) (at : Stand) (high₀ found₀ : List ℕ) (h : Hangs s at high₀ found₀) (v : Option Above) (found : List ℕ) (judged : Judged s at v found) (a : Above) (e : v ≡ Some a) where
+module _ (s : Sheet) (admitted : refusal s ≡ 0) (at : Stand) (high₀ found₀ : List ℕ) (h : Hangs s at high₀ found₀) (v : Option Above) (found : List ℕ) (judged : Judged s at v found) (a : Above) (e : v ≡ Some a) where
   above_zero : Judged s at (Some a) found
   above_zero = subst (λ (x : Option Above). Judged s at x found) e judged
 
   pub fall_asks : Turns a.weight × RoomFor a.arcs found high₀
   fall_asks = (
-    high_ready s h.ready.admitted at.time.top at.time.bottom found a.arcs above_zero.0 a.weight above_zero.1 h.over,
-    beats_fits s h.ready.admitted at.time.top at.time.bottom found a.arcs above_zero.0 above_zero.2 high₀ h.high_room,
+    high_ready s admitted at.time.top at.time.bottom found a.arcs above_zero.0 a.weight above_zero.1 h.over,
+    beats_fits s admitted at.time.top at.time.bottom found a.arcs above_zero.0 above_zero.2 high₀ h.high_room,
   )
 
   pub fall_next : (next : Stand) (high : List ℕ) → Falls a.weight found a.arcs high₀ next high → HighStands s next high found × Under next.time.top next.time.bottom at.time.top at.time.bottom
   fall_next next high f =
-      let on = high_on s h.ready.admitted at.time.top at.time.bottom found a.arcs above_zero.0 a.weight above_zero.1 h.over high₀ next.time.top next.time.bottom f.1 in
+      let on = high_on s admitted at.time.top at.time.bottom found a.arcs above_zero.0 a.weight above_zero.1 h.over high₀ next.time.top next.time.bottom f.1 in
       let held : HighHeld s high next.time.top next.time.bottom next.arcs = rw (f.2, f.0) on.0 in
       let room : length high ≡ 768 = ap length f.2 ∙ copied_length found (4 * a.arcs) high₀ fall_asks.1.1 fall_asks.1.2 ∙ h.high_room in
-      (high_stands s at next high₀ found₀ high found h held room above_zero.2, on.1)
+      (high_stands s admitted at next high₀ found₀ high found h held room above_zero.2, on.1)
 
-module _ (s : Sheet) (at : Stand) (high₀ found₀ : List ℕ) (h : HighStands s at high₀ found₀) (v : Option Above) (found : List ℕ) (judged : Judged s at v found) where
+module _ (s : Sheet) (admitted : refusal s ≡ 0) (at : Stand) (high₀ found₀ : List ℕ) (h : HighStands s at high₀ found₀) (v : Option Above) (found : List ℕ) (judged : Judged s at v found) where
   pub descend_next : (a : Above) → v ≡ Some a → (next : Stand) (high : List ℕ) → Falls a.weight found a.arcs high₀ next high
       → HighStands s next high found × (to_descend s next < to_descend s at)
   descend_next a e next high f =
-      let n = fall_next s at high₀ found₀ h.hangs v found judged a e next high f in
+      let n = fall_next s admitted at high₀ found₀ h.hangs v found judged a e next high f in
       let o = h.hangs.over in (
         n.0,
-        descend_less (nodes s) 1000000 s.n (arcs s) (sheet_laid s (accepted s h.hangs.ready.admitted)) o.top o.bottom o.positive o.works at.time.top at.time.bottom
+        descend_less (nodes s) 1000000 s.n (arcs s) (sheet_laid s (accepted s admitted)) o.top o.bottom o.positive o.works at.time.top at.time.bottom
             (held_arcs s h.held.held) next.time.top next.time.bottom (held_arcs s n.0.held.held) h.held.top_is n.0.held.top_is n.1,
       )
 
@@ -89,7 +87,7 @@ above = record { time = record { top = 192000001; bottom = 1 }; arcs = 0 }
 pub overhead_hangs : (s : Sheet) (low : Stand) (high found : List ℕ) → Overhead s low high found → Hangs s above high found
 overhead_hangs s low high found o =
     record {
-      ready = record { admitted = o.admitted; some = omega arith; few = omega arith; small = omega arith; room = o.found_room };
+      ready = record { some = omega arith; few = omega arith; small = omega arith; room = o.found_room };
       over = record {
         top = low.time.top;
         bottom = low.time.bottom;

@@ -2,7 +2,7 @@
 use Rattle.std.specs.Prelude.{◌≡◌, ◌⊎◌, List, ℕ, ◌-◌, ◌*◌, ◌≤◌, ◌<◌, length, Option, None, Some, Result, Ok, Err}
 use Rattle.theory.specs.Arcs.{Works}
 use Rattle.theory.specs.Ends.{Reduces}
-use Rattle.tables.specs.Sheets.{Sheet, refusal}
+use Rattle.tables.specs.Sheets.{Sheet}
 use Rattle.windows.specs.Arcs.{arcs}
 use Rattle.ask.specs.declared.Asked.{Asked}
 use Rattle.ask.specs.declared.Asked.TheVariants as asked
@@ -14,9 +14,8 @@ use Rattle.search.specs.declared.NoTime.{NoTime}
 use Rattle.search.specs.Copies.{copied}
 use Rattle.search.specs.Climbs.{Beats, Over, LowHeld, HighHeld, NoneHeld}
 
--- an admitted sheet, a cycle time within Ask's limits, and room for a circuit
-pub record Ready (s : Sheet) (at : Stand) (found : List ℕ) : Type 0 where
-  pub admitted : refusal s ≡ 0
+-- of an admitted sheet: a cycle time within Ask's limits, and room for a circuit
+pub record Ready (at : Stand) (found : List ℕ) : Type 0 where
   pub some : 1 ≤ at.time.bottom
   pub few : at.time.bottom ≤ 1000
   pub small : at.time.top ≤ 1000000000
@@ -54,14 +53,12 @@ Falls w found count high₀ next high = (next.arcs ≡ count) × Reduces (w.down
 
 -- the climb stands at a cycle time, with its circuit in `low`
 pub record LowStands (s : Sheet) (at : Stand) (low found : List ℕ) : Type 0 where
-  pub admitted : refusal s ≡ 0
   pub held : LowHeld s low at.time.top at.time.bottom at.arcs
   pub low_room : length low ≡ 768
   pub found_room : length found ≡ 768
 
--- before the climb: an admitted sheet and two buffers
-pub record Starting (s : Sheet) (low found : List ℕ) : Type 0 where
-  pub admitted : refusal s ≡ 0
+-- before the climb of an admitted sheet: two buffers
+pub record Starting (low found : List ℕ) : Type 0 where
   pub low_room : length low ≡ 768
   pub found_room : length found ≡ 768
 
@@ -72,7 +69,7 @@ Climbs s (Err none) low found = NoneHeld s low none.first found none.second × (
 
 -- something works at or below where the descent stands, and Ask may be asked there
 pub record Hangs (s : Sheet) (at : Stand) (high found : List ℕ) : Type 0 where
-  pub ready : Ready s at found
+  pub ready : Ready at found
   pub over : Over s at.time.top at.time.bottom
   pub high_room : length high ≡ 768
 
@@ -90,7 +87,6 @@ pub record Rests (s : Sheet) (at : Stand) (high found : List ℕ) : Type 0 where
 
 -- before the descent: what works is known, and small
 pub record Overhead (s : Sheet) (low : Stand) (high found : List ℕ) : Type 0 where
-  pub admitted : refusal s ≡ 0
   pub positive : 0 < low.time.bottom
   pub small : low.time.top ≤ 192000000
   pub works : Works (arcs s) low.time.top low.time.bottom

@@ -14,7 +14,7 @@ use ask::Asked;
 use buffers::copy;
 use fractions::Fraction;
 use limits::{Climb, Weight, next_high, next_low};
-use tables::sheets::Sheet;
+use tables::sheets::Admitted;
 use weights::weigh;
 
 // A cycle time above every limit: a circuit has at most 192 arcs, of at most 1,000,000 each.
@@ -35,25 +35,25 @@ struct Above {
 }
 
 // Asks at a cycle time. A refutation leaves its circuit at the front of the buffer.
-fn ask_at(sheet: &Sheet, at: Stand, found: &mut [u8]) -> Asked
-    requires { Ready (lent sheet.now) at found.old }
-    ensures { Asks (lent sheet.now) at result found.new }
+fn ask_at(admitted: &Admitted, at: Stand, found: &mut [u8]) -> Asked
+    requires { Ready at found.old }
+    ensures { Asks (lent admitted.now.sheet) at result found.new }
 {
     let mut plan = [0; tables::NODES];
-    // no refusal fits: the sheet is admitted, the cycle time is within Ask's limits and there is room
-    ask::ask(sheet, at.time, &mut plan, found).unwrap()
+    // no refusal fits: the sheet is admitted, as its type says, the cycle time is within Ask's limits and there is room
+    ask::ask(&admitted.sheet, at.time, &mut plan, found).unwrap()
 }
 
 // Asks where the search stands, and weighs the circuit that refutes; none does where it works.
-fn judge_at(sheet: &Sheet, at: Stand, found: &mut [u8]) -> Option<Above>
-    requires { Ready (lent sheet.now) at found.old }
-    ensures { Judged (lent sheet.now) at result found.new }
+fn judge_at(admitted: &Admitted, at: Stand, found: &mut [u8]) -> Option<Above>
+    requires { Ready at found.old }
+    ensures { Judged (lent admitted.now.sheet) at result found.new }
 {
-    match ask_at(sheet, at, found) {
+    match ask_at(admitted, at, found) {
         Asked::Accepted { rounds: _ } => None,
         Asked::Refuted { arcs: count } => {
             let arcs = count as usize;
-            let weight = weigh(sheet, found, arcs);
+            let weight = weigh(&admitted.sheet, found, arcs);
             Some(Above { weight, arcs })
         }
     }
@@ -93,15 +93,15 @@ fn climb_by(above: Above, held: usize, found: &[u8], low: &mut [u8]) -> Result<S
 }
 
 // The climb from 0/1: every circuit above zero names a later cycle time, so that it ends, at the lowest with its circuit, or where nothing works.
-pub fn climb(sheet: &Sheet, low: &mut [u8], found: &mut [u8]) -> Result<Stand, NoTime>
-    requires { Starting (lent sheet.now) low.old found.old }
-    ensures { Climbs (lent sheet.now) result low.new found.new }
+pub fn climb(admitted: &Admitted, low: &mut [u8], found: &mut [u8]) -> Result<Stand, NoTime>
+    requires { Starting low.old found.old }
+    ensures { Climbs (lent admitted.now.sheet) result low.new found.new }
 {
     let mut at = Stand {
         time: Fraction { top: 0, bottom: 1 },
         arcs: 0,
     };
-    while let Some(above) = judge_at(sheet, at, found) {
+    while let Some(above) = judge_at(admitted, at, found) {
         at = climb_by(above, at.arcs, found, low)?;
     }
     Ok(at)
@@ -120,21 +120,21 @@ fn descend_by(above: Above, found: &[u8], high: &mut [u8]) -> Stand
 }
 
 // The descent from a cycle time that a circuit named: every circuit above zero names an earlier one, so that it ends.
-fn descend_from(sheet: &Sheet, from: Stand, high: &mut [u8], found: &mut [u8]) -> Stand
-    requires { HighStands (lent sheet.now) from high.old found.old }
-    ensures { Rests (lent sheet.now) result high.new found.new }
+fn descend_from(admitted: &Admitted, from: Stand, high: &mut [u8], found: &mut [u8]) -> Stand
+    requires { HighStands (lent admitted.now.sheet) from high.old found.old }
+    ensures { Rests (lent admitted.now.sheet) result high.new found.new }
 {
     let mut at = from;
-    while let Some(above) = judge_at(sheet, at, found) {
+    while let Some(above) = judge_at(admitted, at, found) {
         at = descend_by(above, found, high);
     }
     at
 }
 
 // The descent from above every limit, to the highest cycle time with its circuit; there is none where that works.
-pub fn descend(sheet: &Sheet, low: Stand, high: &mut [u8], found: &mut [u8]) -> Option<Stand>
-    requires { Overhead (lent sheet.now) low high.old found.old }
-    ensures { Descends (lent sheet.now) result high.new found.new }
+pub fn descend(admitted: &Admitted, low: Stand, high: &mut [u8], found: &mut [u8]) -> Option<Stand>
+    requires { Overhead (lent admitted.now.sheet) low high.old found.old }
+    ensures { Descends (lent admitted.now.sheet) result high.new found.new }
 {
     let start = Stand {
         time: Fraction {
@@ -143,7 +143,7 @@ pub fn descend(sheet: &Sheet, low: Stand, high: &mut [u8], found: &mut [u8]) -> 
         },
         arcs: 0,
     };
-    let above = judge_at(sheet, start, found)?;
+    let above = judge_at(admitted, start, found)?;
     let next = descend_by(above, found, high);
-    Some(descend_from(sheet, next, high, found))
+    Some(descend_from(admitted, next, high, found))
 }

@@ -76,7 +76,7 @@ fn differs(xs: &[u64], ys: &[u64]) -> Option<usize>
     xs.iter().zip(ys).position(|(x, y)| x != y)
 }
 
-// Writes the first `count` of the times over as many of another table, or of a plan's buffer: the one count cuts both.
+// Writes the first `count` of the times over as many of a plan's buffer: the one count cuts both.
 pub fn write_times(times: &[u64], count: usize, into: &mut [u64])
     requires { (count ≤ length times.now) × (count ≤ length into.old) }
     ensures { Filled times.now count into.old into.new }

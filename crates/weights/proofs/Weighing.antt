@@ -1,20 +1,12 @@
 -- What one arc adds to a circuit's sums, by the number of its kind, and the sums of one arc more.
 use mathlib.Core.Path.{◌≡◌, refl, sym, ap, ◌∙◌}
 use mathlib.Core.List.{List}
-use Prim.Native.Nat.{ℕ, zero, suc, ◌+◌, ◌/◌, ◌≤◌, ◌<◌}
+use Prim.Native.Nat.{ℕ, zero, suc, ◌+◌, ◌≤◌}
 use native.Mathlib.Omega.{arith}
-use native.Mathlib.Nat.{div-eq_of_lt, div_self}
 use native.Mathlib.Numerals.{add-one}
 use Rattle.tables.specs.Sheets.{Sheet}
 use Rattle.weights.specs.Weights.{weight, kind_weight, weight_at, plus, weights_in, Light}
 use Rattle.limits.specs.declared.Weight.{Weight}
-
--- the position after the last lies in the next period
-pub crosses_last : (positions position : ℕ) → 0 < positions → position ≡ positions → 1 ≡ position / positions
-crosses_last positions position some e = sym (ap (λ (k : ℕ). k / positions) e ∙ div_self some)
-
-pub crosses_not : (positions position : ℕ) → position < positions → 0 ≡ position / positions
-crosses_not positions position small = sym (div-eq_of_lt small)
 
 -- a kind's number, and what an arc of that kind adds
 module _ (kind u d c : ℕ) where

@@ -17,11 +17,7 @@ fn crossing(positions: usize, position: u8) -> u64
     requires { (0 < positions) × (position ≤ positions) }
     ensures { (result ≡ position / positions) × (result ≤ 1) }
 {
-    if usize::from(position) == positions {
-        1
-    } else {
-        0
-    }
+    u64::from(usize::from(position) == positions)
 }
 
 // Four sums as one value.

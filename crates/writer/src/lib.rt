@@ -76,14 +76,14 @@ impl<'a> Numbers<'a> {
     }
 
     // Writes every mode, each from the part of the tables that starts at 4t·n².
-    fn modes(&mut self, n: usize, m: usize, tables: &[i32])
-        requires { (1 ≤ n) × (n ≤ 12) × (m ≤ 8) × (m * (4 * (n * n)) ≤ length tables.now) × (self.old.at ≤ 1000) }
-        ensures { Adds self.old (modes_numbers n m tables.now) self.new }
+    fn modes(&mut self, sheet: &Sheet)
+        requires { (1 ≤ sheet.now.n) × (sheet.now.n ≤ 12) × (sheet.now.m ≤ 8) × (sheet.now.m * (4 * (sheet.now.n * sheet.now.n)) ≤ length sheet.now.tables.now) × (self.old.at ≤ 1000) }
+        ensures { Adds self.old (modes_numbers sheet.now.n sheet.now.m sheet.now.tables.now) self.new }
     {
-        let size = tables::KINDS * (n * n);
-        for t in 0..m {
+        let size = tables::KINDS * (sheet.n * sheet.n);
+        for t in 0..sheet.m {
             let start = t * size;
-            self.mode(n, &tables[start..start + size]);
+            self.mode(sheet.n, &sheet.tables[start..start + size]);
         }
     }
 
@@ -103,20 +103,14 @@ impl<'a> Numbers<'a> {
 fn write_all(admitted: &Admitted, out: &mut [u8]) -> usize
     ensures { state result out.new ≡ run out.old 0 (sheet_numbers (lent admitted.now.sheet)) }
 {
-    let Sheet {
-        n,
-        m,
-        positions,
-        tables,
-        schedule,
-    } = admitted.sheet;
+    let sheet = &admitted.sheet;
     let mut numbers = Numbers { out, at: 0 };
     numbers.number(sheet::FORMAT);
-    numbers.number(n);
-    numbers.number(m);
-    numbers.number(positions);
-    numbers.schedule(&schedule[..positions]);
-    numbers.modes(n, m, tables);
+    numbers.number(sheet.n);
+    numbers.number(sheet.m);
+    numbers.number(sheet.positions);
+    numbers.schedule(&sheet.schedule[..sheet.positions]);
+    numbers.modes(sheet);
     numbers.at
 }
 

@@ -1,11 +1,11 @@
 -- The invariant: `least` is the smallest of the nodes passed, and u was not met again. The measure is how many nodes are left.
+use Rattle.std.proofs.Common.{rules}
 use Prim.Native.Nat.{◌*◌, ◌<◌}
 use native.Mathlib.Omega.{arith}
 use Rattle.circuits.specs.Ways.{before}
 use Rattle.theory.proofs.Backs.{back_none}
-use Rattle.circuits.proofs.Ways.{sound_here, going_none, going_few, going_less, going_more, going_round}
+use Rattle.circuits.proofs.Ways.{sound_here, going_none, going_few, going_on, going_round}
 use Rattle.circuits.proofs.go_round.Goals as goal
-use Rattle.circuits.proofs.go_round.Goals.{then-is_less, else-is_less}
 
 pub offset_bounds-marks-u : goal.offset_bounds-marks-u
 offset_bounds-marks-u c = let a = c.args in omega (arith, c.requires.0.rowed.few, sound_here a.marks.now.row.now a.marks.now.n a.marks.now.positions a.u c.requires.0 0 a.u (back_none (before a.marks.now.row.now) a.u))
@@ -39,12 +39,7 @@ loop-x-smaller c =
     omega (arith, few)
 
 pub loop-x-preserved : goal.loop-x-preserved
-loop-x-preserved c = let a = c.args in
-    let b = before a.marks.now.row.now in
-    elim c.if-is_less.branch [
-      | then-is_less w ↦ rw w.least-is (going_less b a.u c.loop-x.least c.loop-x.count c.loop-x.x c.loop-x.invariant c.loop-x-test.true c.departure-x-in-loop-x.result c.departure-x-in-loop-x.ensures (omega (arith, w.if-is_less.true)))
-      | else-is_less w ↦ rw w.least-is (going_more b a.u c.loop-x.least c.loop-x.count c.loop-x.x c.loop-x.invariant c.loop-x-test.true c.departure-x-in-loop-x.result c.departure-x-in-loop-x.ensures (omega (arith, w.if-is_less.false)))
-    ]
+loop-x-preserved c = let a = c.args in search (rules, going_on (before a.marks.now.row.now) a.u c.loop-x.least c.loop-x.count c.loop-x.x c.loop-x.invariant c.loop-x-test.true c.departure-x-in-loop-x.result c.departure-x-in-loop-x.ensures)
 
 pub returns : goal.returns
 returns c = let a = c.args in going_round (before a.marks.now.row.now) a.u c.loop-x.least c.loop-x.count c.loop-x.x c.loop-x.invariant c.loop-x-test.false

@@ -3,10 +3,10 @@ use Rattle.ends.proofs.Finishing.{low_fits, low_high, finds}
 use Rattle.ends.proofs.finish_low.Goals as goal
 
 pub copy-requires : goal.copy-requires
-copy-requires c = low_fits _ _ _ _ _ _ c.requires
+copy-requires c = low_fits _ c.args.admitted.now.admitted _ _ _ _ _ c.requires
 
 pub find_high-requires : goal.find_high-requires
-find_high-requires c = low_high _ _ _ _ _ _ c.requires
+find_high-requires c = low_high _ c.args.admitted.now.admitted _ _ _ _ _ c.requires
 
 pub returns : goal.returns
-returns c = finds _ _ _ _ _ _ c.requires _ c.copy.ensures c.find_high.result _ c.find_high.ensures
+returns c = finds _ c.args.admitted.now.admitted _ _ _ _ _ c.requires _ c.copy.ensures c.find_high.result _ c.find_high.ensures

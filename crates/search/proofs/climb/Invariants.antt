@@ -6,7 +6,7 @@ use Rattle.search.proofs.Rising.{to_climb}
 use Rattle.search.proofs.climb.Given as goal
 
 abbrev pub invariant-loop-above : goal.invariant-loop-above
-invariant-loop-above l = LowStands (lent l.sheet) l.at l.low l.found
+invariant-loop-above l = LowStands (lent l.admitted.sheet) l.at l.low l.found
 
 abbrev pub decreases-loop-above : goal.decreases-loop-above
-decreases-loop-above l = to_climb (lent l.sheet) l.at
+decreases-loop-above l = to_climb (lent l.admitted.sheet) l.at

@@ -6,7 +6,7 @@ use Rattle.search.proofs.Falling.{to_descend}
 use Rattle.search.proofs.descend_from.Given as goal
 
 abbrev pub invariant-loop-above : goal.invariant-loop-above
-invariant-loop-above l = HighStands (lent l.sheet) l.at l.high l.found
+invariant-loop-above l = HighStands (lent l.admitted.sheet) l.at l.high l.found
 
 abbrev pub decreases-loop-above : goal.decreases-loop-above
-decreases-loop-above l = to_descend (lent l.sheet) l.at
+decreases-loop-above l = to_descend (lent l.admitted.sheet) l.at

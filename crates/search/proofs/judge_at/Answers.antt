@@ -3,10 +3,10 @@ use Rattle.search.proofs.Asking.{judged_works, judged_lists, judged_above}
 use Rattle.search.proofs.judge_at.Goals as goal
 
 pub weigh-weight-requires : goal.weigh-weight-requires
-weigh-weight-requires c = judged_lists _ _ _ c.requires _ _ c.ask_at.ensures _ c.in-Refuted.is
+weigh-weight-requires c = judged_lists _ c.args.admitted.now.admitted c.args.at _ _ c.ask_at.ensures _ c.in-Refuted.is
 
 pub returns-in-Accepted : goal.returns-in-Accepted
-returns-in-Accepted c = judged_works _ _ _ c.requires _ _ c.ask_at.ensures _ c.in-Accepted.is
+returns-in-Accepted c = judged_works _ c.args.admitted.now.admitted c.args.at _ _ c.ask_at.ensures _ c.in-Accepted.is
 
 pub returns-in-Refuted : goal.returns-in-Refuted
-returns-in-Refuted c = judged_above _ _ _ c.requires _ _ c.ask_at.ensures _ c.in-Refuted.is _ c.weigh-weight.ensures.sums
+returns-in-Refuted c = judged_above _ c.args.admitted.now.admitted c.args.at _ _ c.ask_at.ensures _ c.in-Refuted.is _ c.weigh-weight.ensures.sums

@@ -6,4 +6,4 @@ use Rattle.writer.proofs.Rows.{left_modes}
 use Rattle.writer.proofs.Numbers.modes.Given as goal
 
 abbrev pub invariant-loop-t : goal.invariant-loop-t
-invariant-loop-t l = (l.self.at ≤ l.initial.self.at + 9220 * l.t) × Leaves l.initial.self (modes_numbers l.n l.m l.tables) l.self (left_modes l.n l.m l.tables l.t)
+invariant-loop-t l = (l.self.at ≤ l.initial.self.at + 9220 * l.t) × Leaves l.initial.self (modes_numbers l.sheet.n l.sheet.m l.sheet.tables.now) l.self (left_modes l.sheet.n l.sheet.m l.sheet.tables.now l.t)
