@@ -9,10 +9,10 @@ use Rattle.sheet.specs.File as file
 use Rattle.records.specs.Steps.{Refuses}
 use Rattle.reader.specs.declared.Counts.{Counts}
 
--- n, m and V that were read, as the part that they are
-abbrev pub head_part : Result (Counts × ℕ) code.Refusal → Part file.Counts
-head_part (Ok (c, next)) = got (counts c.n c.m c.positions) next
-head_part (Err r) = refused (said r)
+-- n, m and V that were read, with the place after them, as the part that they are
+abbrev pub head_part : Result Counts code.Refusal → ℕ → Part file.Counts
+head_part (Ok c) next = got (counts c.n c.m c.positions) next
+head_part (Err r) next = refused (said r)
 
 -- n, m and V of a sheet
 abbrev pub counted : Sheet → Counts

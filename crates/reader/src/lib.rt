@@ -7,11 +7,12 @@
 ghost use Rattle.std.specs.Prelude.{◌≡◌, ◌≤◌, ◌<◌};
 ghost use Rattle.std.proofs.lemmas.List.Edits.{sets};
 ghost use Rattle.sheet.specs.File.{schedule_at, counts_at, tables_at, sheet_in};
-ghost use Rattle.records.specs.Steps.{Walks};
+ghost use Rattle.records.specs.Steps.{left, Walks};
 ghost use Rattle.reader.specs.Answers.{Reads, Lends};
 ghost use Rattle.reader.specs.Steps.{head_part, Fills};
 
 use numbers::refusals::{Reason, Refusal};
+use records::Cursor;
 use tables::sheets::{Admitted, Sheet};
 
 // n, m and V.
@@ -22,71 +23,61 @@ pub struct Counts {
     pub positions: usize,
 }
 
-// Reads the mode numbers of a schedule from a place on. The place after them.
+// Reads the mode numbers of a schedule.
 fn read_schedule(
-    file: &[u8],
+    cursor: &mut Cursor,
     m: usize,
     positions: usize,
-    at: usize,
     schedule: &mut [u8],
-) -> Result<usize, Refusal>
+) -> Result<(), Refusal>
     requires { (1 ≤ m) × (m ≤ 8) }
-    ensures { Walks (λ was modes. sets was 0 modes) (schedule_at file.now m positions at) schedule.old result schedule.new }
+    ensures walks { Walks (λ was modes. sets was 0 modes) (schedule_at cursor.old.file.now m positions cursor.old.at) schedule.old (left result cursor.new.at) schedule.new }
+    ensures kept { cursor.new.file.now ≡ cursor.old.file.now }
 {
-    let mut next = at;
     for position in 0..positions {
-        let mode = records::number_within(file, next, 0, m - 1, Reason::Schedule)?;
-        records::put(schedule, position, mode.value as u8);
-        next = mode.next;
+        let mode = cursor.number_within(0, m - 1, Reason::Schedule)?;
+        records::put(schedule, position, mode as u8);
     }
-    Ok(next)
+    Ok(())
 }
 
-// The format number, n, m and V, and the place after them.
-fn read_head(file: &[u8]) -> Result<(Counts, usize), Refusal>
-    ensures { head_part result ≡ counts_at file.now 0 }
+// The format number, n, m and V.
+fn read_head(cursor: &mut Cursor) -> Result<Counts, Refusal>
+    ensures reads { head_part result cursor.new.at ≡ counts_at cursor.old.file.now cursor.old.at }
+    ensures kept { cursor.new.file.now ≡ cursor.old.file.now }
 {
-    let format = records::number_within(file, 0, sheet::FORMAT, sheet::FORMAT, Reason::Format)?;
-    let n = records::number_within(file, format.next, 1, tables::MOST_EVENTS, Reason::Size)?;
-    let m = records::number_within(file, n.next, 1, tables::MOST_MODES, Reason::Size)?;
-    let positions = records::number_within(file, m.next, 1, tables::MOST_POSITIONS, Reason::Size)?;
-    let counts = Counts {
-        n: n.value,
-        m: m.value,
-        positions: positions.value,
-    };
-    Ok((counts, positions.next))
+    cursor.number_within(sheet::FORMAT, sheet::FORMAT, Reason::Format)?;
+    let n = cursor.number_within(1, tables::MOST_EVENTS, Reason::Size)?;
+    let m = cursor.number_within(1, tables::MOST_MODES, Reason::Size)?;
+    let positions = cursor.number_within(1, tables::MOST_POSITIONS, Reason::Size)?;
+    Ok(Counts { n, m, positions })
 }
 
 // Reads all that follows the schedule, to the end of the file.
-fn read_tables(
-    file: &[u8],
-    n: usize,
-    m: usize,
-    at: usize,
-    tables: &mut [i32],
-) -> Result<usize, Refusal>
+fn read_tables(cursor: &mut Cursor, n: usize, m: usize, tables: &mut [i32]) -> Result<(), Refusal>
     requires { (n ≤ 12) × (m ≤ 8) }
-    ensures { Walks (λ was values. sets was 0 values) (tables_at file.now n m at) tables.old result tables.new }
+    ensures walks { Walks (λ was values. sets was 0 values) (tables_at cursor.old.file.now n m cursor.old.at) tables.old (left result cursor.new.at) tables.new }
+    ensures kept { cursor.new.file.now ≡ cursor.old.file.now }
 {
-    let next = records::read_modes(file, n, m, at, tables)?;
-    let has_surplus = next != file.len();
+    records::read_modes(cursor, n, m, tables)?;
+    let has_surplus = cursor.at != cursor.file.len();
     if has_surplus {
         return Err(Refusal {
             reason: Reason::Surplus,
-            at: next,
+            at: cursor.at,
         });
     }
-    Ok(next)
+    Ok(())
 }
 
 // Reads the file into tables and schedule, as far as these have room.
 fn read_into(file: &[u8], tables: &mut [i32], schedule: &mut [u8]) -> Result<Counts, Refusal>
     ensures { Fills (sheet_in file.now) tables.old schedule.old result tables.new schedule.new }
 {
-    let (counts, at) = read_head(file)?;
-    let next = read_schedule(file, counts.m, counts.positions, at, schedule)?;
-    read_tables(file, counts.n, counts.m, next, tables)?;
+    let mut cursor = Cursor { file, at: 0 };
+    let counts = read_head(&mut cursor)?;
+    read_schedule(&mut cursor, counts.m, counts.positions, schedule)?;
+    read_tables(&mut cursor, counts.n, counts.m, tables)?;
     Ok(counts)
 }
 

@@ -1,5 +1,6 @@
 pub mod Ranges
 pub mod Walking
+pub mod Taking
 pub mod Records
 pub mod Clearing
 pub mod Lent

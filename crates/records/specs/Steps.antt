@@ -1,6 +1,6 @@
 -- What the steps that read records promise each other and the reader.
 use Rattle.std.specs.Prelude.{ℕ, ◌≡◌, Bool, ◌&&◌, List, leb, Result, Ok, Err}
-use Rattle.numbers.specs.Groups.{Refusal}
+use Rattle.numbers.specs.Groups.{Refusal, Number, Value, Refused}
 use Rattle.numbers.specs.Signs.{decoded}
 use Rattle.numbers.specs.Refusals.{said}
 use Rattle.numbers.specs.declared.refusals.Refusal as code
@@ -11,10 +11,20 @@ use Rattle.records.specs.declared.Found.{Found}
 abbrev pub between : ℕ → ℕ → ℕ → Bool
 between least most v = leb least v && leb v most
 
--- a record that was found, as the part that it is
-abbrev pub found_part : Result Found code.Refusal → Part Placed
-found_part (Ok w) = got (placed w.place (decoded w.code)) w.next
-found_part (Err r) = refused (said r)
+-- a number that was taken from the file between two places, as the number that it is
+abbrev pub taken : Result ℕ code.Refusal → ℕ → ℕ → Number
+taken (Ok v) began next = Value v began next
+taken (Err r) began next = Refused (said r)
+
+-- a record that was found, with the place after it, as the part that it is
+abbrev pub found_part : Result Found code.Refusal → ℕ → Part Placed
+found_part (Ok w) next = got (placed w.place (decoded w.code)) next
+found_part (Err r) next = refused (said r)
+
+-- the place that a step leaves, where it is not refused
+abbrev pub left : {A : Type 0} → Result A code.Refusal → ℕ → Result ℕ code.Refusal
+left (Ok a) next = Ok next
+left (Err r) next = Err r
 
 -- refused, and that is why
 abbrev pub Refuses : {A : Type 0} → Refusal → Result A code.Refusal → Type 0

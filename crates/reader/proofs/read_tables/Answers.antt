@@ -4,6 +4,7 @@ use Rattle.numbers.proofs.Reasons.{handed_on}
 use Rattle.sheet.specs.File.{got, refused, tables_of, ended, tables_at}
 use Rattle.records.proofs.Walking.{walked, unwalked, stopped, arrived}
 use Rattle.sheet.proofs.Following.{then_value, then_refused}
+use Rattle.records.proofs.Taking.{left_at, left_no}
 use Rattle.records.proofs.Modes.{store_from}
 use mathlib.Core.Path.{◌≡◌, ◌∙◌}
 use mathlib.Core.List.{List}
@@ -28,20 +29,20 @@ module _ (file : List ℕ) (tables : List ℤ) (next : ℕ) where
 abbrev all : List ℤ → List ℤ → List ℤ
 all was values = sets was 0 values
 
-pub returns-in_err-next : goal.returns-in_err-next
+pub returns-in_err-read_modes-clause-walks : goal.returns-in_err-read_modes-clause-walks
 unfolding tables_at
-returns-in_err-next c = let a = c.args in
+returns-in_err-read_modes-clause-walks c = let a = c.args in
     rw (handed_on _ _ c.from_residual.ensures.1)
-    (stopped all (tables_at a.file.now a.n a.m a.at) a.tables.now _ _ (then_refused _ _ _ (unwalked (store_from a.n 0) _ _ _ _ _ c.in_err-next.was c.read_modes.ensures)))
+    (stopped all (tables_at a.cursor.now.file.now a.n a.m a.cursor.now.at) a.tables.now _ _ (then_refused _ _ _ (unwalked (store_from a.n 0) _ _ _ _ _ (left_no _ _ _ c.in_err-read_modes.was) c.read_modes.ensures.walks)))
 
-pub returns-then-has_surplus : goal.returns-then-has_surplus
+pub returns-then-has_surplus-clause-walks : goal.returns-then-has_surplus-clause-walks
 unfolding tables_at
-returns-then-has_surplus c = let a = c.args in
-    let k = walked (store_from a.n 0) _ _ _ _ _ c.in_ok-next.was c.read_modes.ensures in
-    stopped all (tables_at a.file.now a.n a.m a.at) a.tables.now _ _ (then_value _ _ _ _ k.is ∙ ended-no _ _ _ c.if-has_surplus.true)
+returns-then-has_surplus-clause-walks c = let a = c.args in
+    let k = walked (store_from a.n 0) _ _ _ _ _ (left_at _ _ _ c.in_ok-read_modes.was) c.read_modes.ensures.walks in
+    stopped all (tables_at a.cursor.now.file.now a.n a.m a.cursor.now.at) a.tables.now _ _ (then_value _ _ _ _ k.is ∙ ended-no _ _ _ (rw c.read_modes.ensures.kept at c.if-has_surplus.true))
 
-pub returns : goal.returns
+pub returns-clause-walks : goal.returns-clause-walks
 unfolding tables_at
-returns c = let a = c.args in
-    let k = walked (store_from a.n 0) _ _ _ _ _ c.in_ok-next.was c.read_modes.ensures in
-    arrived all (tables_at a.file.now a.n a.m a.at) a.tables.now _ (tables_of a.n k.thing) _ (then_value _ _ _ _ k.is ∙ ended-yes _ _ _ c.if-has_surplus.false) k.after
+returns-clause-walks c = let a = c.args in
+    let k = walked (store_from a.n 0) _ _ _ _ _ (left_at _ _ _ c.in_ok-read_modes.was) c.read_modes.ensures.walks in
+    arrived all (tables_at a.cursor.now.file.now a.n a.m a.cursor.now.at) a.tables.now _ (tables_of a.n k.thing) _ (then_value _ _ _ _ k.is ∙ ended-yes _ _ _ (rw c.read_modes.ensures.kept at c.if-has_surplus.false)) k.after

@@ -7,7 +7,6 @@ use lib.IntN.{ℤ}
 use Rattle.numbers.specs.Groups.{bad}
 use Rattle.numbers.specs.Refusals.{read}
 use Rattle.numbers.proofs.Reasons.{handed_on}
-use Rattle.records.specs.Steps.{found_part}
 use Rattle.numbers.specs.Signs.{decoded}
 use Rattle.tables.specs.Sheets.{in_limit}
 use Rattle.sheet.specs.File.{got, refused, placed, value_at, rising}
@@ -32,24 +31,25 @@ module _ (start low p : ℕ) (v : ℤ) (next : ℕ) where
   unfolding rising
   rising-no h = rw (lt-leb low p h)
 
-pub returns-in_err-limit : goal.returns-in_err-limit
+pub returns-in_err-limit-clause-reads : goal.returns-in_err-limit-clause-reads
 unfolding value_at
-returns-in_err-limit c = ap found_part (handed_on _ _ c.from_residual.ensures.1)
-    ∙ sym (after_refused _ _ _ (tested_refused (λ u. in_limit (decoded u)) 6 _ _ (sym c.number_at.ensures ∙ ap read c.in_err-limit.was)))
+returns-in_err-limit-clause-reads c =
+    rw (handed_on _ _ c.from_residual.ensures.1)
+    (sym (after_refused _ _ _ (tested_refused (λ u. in_limit (decoded u)) 6 _ _ (sym c.number_at.ensures ∙ ap read c.in_err-limit.was))))
 
-pub returns-then-is_past : goal.returns-then-is_past
+pub returns-then-is_past-clause-reads : goal.returns-then-is_past-clause-reads
 unfolding value_at
-returns-then-is_past c =
+returns-then-is_past-clause-reads c =
     sym (after_refused _ _ _ (tested_no (λ u. in_limit (decoded u)) 6 _ _ _ _ (sym c.number_at.ensures ∙ ap read c.in_ok-limit.was) (past_limit c.in_ok-limit.limit.value c.if-is_past.true)))
 
-pub returns-then-is_behind : goal.returns-then-is_behind
+pub returns-then-is_behind-clause-reads : goal.returns-then-is_behind-clause-reads
 unfolding value_at
-returns-then-is_behind c =
+returns-then-is_behind-clause-reads c =
     sym (after_value _ _ _ _ (tested_yes (λ u. in_limit (decoded u)) 6 _ _ _ (sym c.number_at.ensures ∙ ap read c.in_ok-limit.was) (within_limit c.in_ok-limit.limit.value c.if-is_past.false))
     ∙ rising-no _ _ _ _ _ c.if-is_behind.true)
 
-pub returns : goal.returns
+pub returns-clause-reads : goal.returns-clause-reads
 unfolding value_at
-returns c =
+returns-clause-reads c =
     sym (after_value _ _ _ _ (tested_yes (λ u. in_limit (decoded u)) 6 _ _ _ (sym c.number_at.ensures ∙ ap read c.in_ok-limit.was) (within_limit c.in_ok-limit.limit.value c.if-is_past.false))
     ∙ rising-yes _ _ _ _ _ c.if-is_behind.false)

@@ -1,18 +1,17 @@
 -- `records::read_window` meets its contract: each number is what its definition tests, and the three give a place in the part.
-use mathlib.Core.Path.{◌≡◌, sym, ap, ◌∙◌}
+use mathlib.Core.Path.{◌≡◌, sym, ◌∙◌}
 use Prim.Native.Nat.{ℕ, ◌≤◌}
 use native.Mathlib.Omega.{arith}
 use borrow.Author.Tests.{leb-true}
 use lib.Dec.{leb}
 use Rattle.numbers.specs.Groups.{Number, Value}
-use Rattle.numbers.specs.Refusals.{read}
 use Rattle.numbers.proofs.Reasons.{handed_on}
 use Rattle.tables.specs.Sheets.{within}
 use Rattle.tables.proofs.Laws.{within_is}
 use Rattle.sheet.specs.File.{record_at, tested}
 use Rattle.sheet.proofs.Numbers.{after_value, after_refused, tested_value}
 use Rattle.sheet.proofs.Places.{Steps, steps_fit}
-use Rattle.records.specs.Steps.{found_part}
+use Rattle.records.proofs.Taking.{took, took_no}
 use Rattle.records.proofs.read_window.Goals as goal
 
 -- three numbers that passed their tests give a place
@@ -29,44 +28,44 @@ steps x y z n kind to from p q r h =
       few_from = f.1;
     }) h
 
-pub returns-in_err-kind : goal.returns-in_err-kind
+pub returns-in_err-kind-clause-reads : goal.returns-in_err-kind-clause-reads
 unfolding record_at
-returns-in_err-kind c = ap found_part (handed_on _ _ c.from_residual.ensures.1) ∙ sym (after_refused _ _ _ (sym c.kind_at.ensures ∙ ap read c.in_err-kind.was))
+returns-in_err-kind-clause-reads c = rw (handed_on _ _ c.from_residual.ensures.1) (sym (after_refused _ _ _ (took_no _ _ _ _ c.read_kind.ensures.reads _ c.in_err-kind.was)))
 
-pub returns-in_err-to : goal.returns-in_err-to
+pub returns-in_err-to-clause-reads : goal.returns-in_err-to-clause-reads
 unfolding record_at
-returns-in_err-to c = ap found_part (handed_on _ _ c.from_residual-in_err-to.ensures.1)
-    ∙ sym (after_value _ _ _ _ (sym c.kind_at.ensures ∙ ap read c.in_ok-kind.was) ∙ after_refused _ _ _ (sym c.number_within.ensures ∙ ap read c.in_err-to.was))
+returns-in_err-to-clause-reads c = rw (handed_on _ _ c.from_residual-in_err-to.ensures.1)
+    (sym (after_value _ _ _ _ (took _ _ _ _ c.read_kind.ensures.reads _ c.in_ok-kind.was) ∙ after_refused _ _ _ (took_no _ _ _ _ (rw c.read_kind.ensures.kept at c.number_within.ensures.reads) _ c.in_err-to.was)))
 
-pub returns-in_err-from : goal.returns-in_err-from
+pub returns-in_err-from-clause-reads : goal.returns-in_err-from-clause-reads
 unfolding record_at
-returns-in_err-from c = ap found_part (handed_on _ _ c.from_residual-in_err-from.ensures.1)
-    ∙ sym (after_value _ _ _ _ (sym c.kind_at.ensures ∙ ap read c.in_ok-kind.was)
-    ∙ after_value _ _ _ _ (sym c.number_within.ensures ∙ ap read c.in_ok-to.was)
-    ∙ after_refused _ _ _ (sym c.number_within-2.ensures ∙ ap read c.in_err-from.was))
+returns-in_err-from-clause-reads c = rw (handed_on _ _ c.from_residual-in_err-from.ensures.1)
+    (sym (after_value _ _ _ _ (took _ _ _ _ c.read_kind.ensures.reads _ c.in_ok-kind.was)
+    ∙ after_value _ _ _ _ (took _ _ _ _ (rw c.read_kind.ensures.kept at c.number_within.ensures.reads) _ c.in_ok-to.was)
+    ∙ after_refused _ _ _ (took_no _ _ _ _ (rw (c.number_within.ensures.kept, c.read_kind.ensures.kept) at c.number_within-2.ensures.reads) _ c.in_err-from.was)))
 
 pub overflow_mul-place : goal.overflow_mul-place
-overflow_mul-place c = omega (arith, steps _ _ _ c.args.n _ _ _ (sym c.kind_at.ensures ∙ ap read c.in_ok-kind.was) (sym c.number_within.ensures ∙ ap read c.in_ok-to.was) (sym c.number_within-2.ensures ∙ ap read c.in_ok-from.was) c.requires)
+overflow_mul-place c = omega (arith, steps _ _ _ c.args.n _ _ _ (took _ _ _ _ c.read_kind.ensures.reads _ c.in_ok-kind.was) (took _ _ _ _ (rw c.read_kind.ensures.kept at c.number_within.ensures.reads) _ c.in_ok-to.was) (took _ _ _ _ (rw (c.number_within.ensures.kept, c.read_kind.ensures.kept) at c.number_within-2.ensures.reads) _ c.in_ok-from.was) c.requires)
 
 pub overflow_sub-place : goal.overflow_sub-place
-overflow_sub-place c = omega (arith, steps _ _ _ c.args.n _ _ _ (sym c.kind_at.ensures ∙ ap read c.in_ok-kind.was) (sym c.number_within.ensures ∙ ap read c.in_ok-to.was) (sym c.number_within-2.ensures ∙ ap read c.in_ok-from.was) c.requires)
+overflow_sub-place c = omega (arith, steps _ _ _ c.args.n _ _ _ (took _ _ _ _ c.read_kind.ensures.reads _ c.in_ok-kind.was) (took _ _ _ _ (rw c.read_kind.ensures.kept at c.number_within.ensures.reads) _ c.in_ok-to.was) (took _ _ _ _ (rw (c.number_within.ensures.kept, c.read_kind.ensures.kept) at c.number_within-2.ensures.reads) _ c.in_ok-from.was) c.requires)
 
 pub overflow_add-place : goal.overflow_add-place
-overflow_add-place c = omega (arith, steps _ _ _ c.args.n _ _ _ (sym c.kind_at.ensures ∙ ap read c.in_ok-kind.was) (sym c.number_within.ensures ∙ ap read c.in_ok-to.was) (sym c.number_within-2.ensures ∙ ap read c.in_ok-from.was) c.requires)
+overflow_add-place c = omega (arith, steps _ _ _ c.args.n _ _ _ (took _ _ _ _ c.read_kind.ensures.reads _ c.in_ok-kind.was) (took _ _ _ _ (rw c.read_kind.ensures.kept at c.number_within.ensures.reads) _ c.in_ok-to.was) (took _ _ _ _ (rw (c.number_within.ensures.kept, c.read_kind.ensures.kept) at c.number_within-2.ensures.reads) _ c.in_ok-from.was) c.requires)
 
 pub overflow_mul-place-2 : goal.overflow_mul-place-2
-overflow_mul-place-2 c = omega (arith, steps _ _ _ c.args.n _ _ _ (sym c.kind_at.ensures ∙ ap read c.in_ok-kind.was) (sym c.number_within.ensures ∙ ap read c.in_ok-to.was) (sym c.number_within-2.ensures ∙ ap read c.in_ok-from.was) c.requires)
+overflow_mul-place-2 c = omega (arith, steps _ _ _ c.args.n _ _ _ (took _ _ _ _ c.read_kind.ensures.reads _ c.in_ok-kind.was) (took _ _ _ _ (rw c.read_kind.ensures.kept at c.number_within.ensures.reads) _ c.in_ok-to.was) (took _ _ _ _ (rw (c.number_within.ensures.kept, c.read_kind.ensures.kept) at c.number_within-2.ensures.reads) _ c.in_ok-from.was) c.requires)
 
 pub overflow_sub-place-2 : goal.overflow_sub-place-2
-overflow_sub-place-2 c = omega (arith, steps _ _ _ c.args.n _ _ _ (sym c.kind_at.ensures ∙ ap read c.in_ok-kind.was) (sym c.number_within.ensures ∙ ap read c.in_ok-to.was) (sym c.number_within-2.ensures ∙ ap read c.in_ok-from.was) c.requires)
+overflow_sub-place-2 c = omega (arith, steps _ _ _ c.args.n _ _ _ (took _ _ _ _ c.read_kind.ensures.reads _ c.in_ok-kind.was) (took _ _ _ _ (rw c.read_kind.ensures.kept at c.number_within.ensures.reads) _ c.in_ok-to.was) (took _ _ _ _ (rw (c.number_within.ensures.kept, c.read_kind.ensures.kept) at c.number_within-2.ensures.reads) _ c.in_ok-from.was) c.requires)
 
 pub overflow_add-place-2 : goal.overflow_add-place-2
-overflow_add-place-2 c = omega (arith, steps _ _ _ c.args.n _ _ _ (sym c.kind_at.ensures ∙ ap read c.in_ok-kind.was) (sym c.number_within.ensures ∙ ap read c.in_ok-to.was) (sym c.number_within-2.ensures ∙ ap read c.in_ok-from.was) c.requires)
+overflow_add-place-2 c = omega (arith, steps _ _ _ c.args.n _ _ _ (took _ _ _ _ c.read_kind.ensures.reads _ c.in_ok-kind.was) (took _ _ _ _ (rw c.read_kind.ensures.kept at c.number_within.ensures.reads) _ c.in_ok-to.was) (took _ _ _ _ (rw (c.number_within.ensures.kept, c.read_kind.ensures.kept) at c.number_within-2.ensures.reads) _ c.in_ok-from.was) c.requires)
 
-pub returns : goal.returns
+pub returns-clause-reads : goal.returns-clause-reads
 unfolding record_at
-returns c =
-    c.read_value.ensures
-    ∙ sym (after_value _ _ _ _ (sym c.kind_at.ensures ∙ ap read c.in_ok-kind.was)
-    ∙ after_value _ _ _ _ (sym c.number_within.ensures ∙ ap read c.in_ok-to.was)
-    ∙ after_value _ _ _ _ (sym c.number_within-2.ensures ∙ ap read c.in_ok-from.was))
+returns-clause-reads c =
+    rw (c.number_within-2.ensures.kept, c.number_within.ensures.kept, c.read_kind.ensures.kept) at c.read_value.ensures.reads
+    ∙ sym (after_value _ _ _ _ (took _ _ _ _ c.read_kind.ensures.reads _ c.in_ok-kind.was)
+    ∙ after_value _ _ _ _ (took _ _ _ _ (rw c.read_kind.ensures.kept at c.number_within.ensures.reads) _ c.in_ok-to.was)
+    ∙ after_value _ _ _ _ (took _ _ _ _ (rw (c.number_within.ensures.kept, c.read_kind.ensures.kept) at c.number_within-2.ensures.reads) _ c.in_ok-from.was))
