@@ -7,17 +7,17 @@ ghost use Rattle.ask.specs.Answers.{answer_asked};
 ghost use Rattle.ends.specs.Answers.{answer_ended};
 ghost use Rattle.report.specs.Told.{answer_told};
 ghost use Rattle.writer.specs.Answers.{answer_written};
-ghost use Rattle.values.specs.Handed.{Given};
+ghost use Rattle.std.specs.Prelude.{Ok};
+ghost use Rattle.values.specs.Handed.{Refused, RefusedAt, GivenOr};
 
 use ask::Asked;
 use ends::Ended;
-use numbers::refusals::{Reason, Refusal};
 use reader::Counts;
-use values::{give, refuse, refuse_at};
+use values::{Answered, give, refuse, refuse_at};
 
-// The reader's answer.
-pub fn of_read(read: Result<Counts, Refusal>, values: &mut [u64]) -> u32
-    ensures { Given (answer_read read) values.old result values.new }
+// The reader's answer, refused by any number with a place. So are those below by any number.
+pub fn of_read<R: Into<(u8, usize)>>(read: Result<Counts, R>, values: &mut [u64]) -> Answered
+    ensures { GivenOr (λ c. answer_read (Ok c)) (RefusedAt R.converts) read values.old result values.new }
 {
     match read {
         Ok(Counts { n, m, positions }) => give(values, 0, &[n as u64, m as u64, positions as u64]),
@@ -26,9 +26,9 @@ pub fn of_read(read: Result<Counts, Refusal>, values: &mut [u64]) -> u32
 }
 
 // The writer's, and the report's: a length.
-pub fn of_length(length: Result<usize, Reason>, values: &mut [u64]) -> u32
-    ensures written { Given (answer_written length) values.old result values.new }
-    ensures told { Given (answer_told length) values.old result values.new }
+pub fn of_length<R: Into<u8>>(length: Result<usize, R>, values: &mut [u64]) -> Answered
+    ensures written { GivenOr (λ k. answer_written (Ok k)) (Refused R.converts) length values.old result values.new }
+    ensures told { GivenOr (λ k. answer_told (Ok k)) (Refused R.converts) length values.old result values.new }
 {
     match length {
         Ok(length) => give(values, 0, &[length as u64]),
@@ -37,8 +37,8 @@ pub fn of_length(length: Result<usize, Reason>, values: &mut [u64]) -> u32
 }
 
 // Ask's.
-pub fn of_asked(asked: Result<Asked, Reason>, values: &mut [u64]) -> u32
-    ensures { Given (answer_asked asked) values.old result values.new }
+pub fn of_asked<R: Into<u8>>(asked: Result<Asked, R>, values: &mut [u64]) -> Answered
+    ensures { GivenOr (λ a. answer_asked (Ok a)) (Refused R.converts) asked values.old result values.new }
 {
     match asked {
         Ok(Asked::Accepted { rounds }) => give(values, 0, &[rounds]),
@@ -48,8 +48,8 @@ pub fn of_asked(asked: Result<Asked, Reason>, values: &mut [u64]) -> u32
 }
 
 // That of Ends.
-pub fn of_ended(ended: Result<Ended, Reason>, values: &mut [u64]) -> u32
-    ensures { Given (answer_ended ended) values.old result values.new }
+pub fn of_ended<R: Into<u8>>(ended: Result<Ended, R>, values: &mut [u64]) -> Answered
+    ensures { GivenOr (λ e. answer_ended (Ok e)) (Refused R.converts) ended values.old result values.new }
 {
     match ended {
         Ok(Ended::Found { low, high: None }) => give(

@@ -26,9 +26,9 @@ pub extern "C" fn tamulehk_check_times(
     match reader::lend(file, &mut tables, &mut schedule) {
         Ok(admitted) => {
             let time = Fraction { top: p, bottom: q };
-            verdicts::of_times(keeping::check_times(&admitted.sheet, time, times), values)
+            verdicts::of_times(keeping::check_times(&admitted.sheet, time, times), values).number
         }
-        Err(refusal) => refuse_at(values, refusal),
+        Err(refusal) => refuse_at(values, refusal).number,
     }
 }
 
@@ -49,8 +49,8 @@ pub extern "C" fn tamulehk_check_arcs(
     match reader::lend(file, &mut tables, &mut schedule) {
         Ok(admitted) => {
             let time = Fraction { top: p, bottom: q };
-            verdicts::of_arcs(refuting::check_arcs(&admitted.sheet, time, arcs), values)
+            verdicts::of_arcs(refuting::check_arcs(&admitted.sheet, time, arcs), values).number
         }
-        Err(unread) => refuse_at(values, unread),
+        Err(unread) => refuse_at(values, unread).number,
     }
 }

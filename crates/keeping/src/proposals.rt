@@ -56,8 +56,9 @@ impl<'s, 't> Proposal<'s, 't> {
         requires part { part.now ≡ take (4 * (self.now.line.sheet.n * self.now.line.sheet.n)) (part_at self.now.line g) }
         ensures { Finds (breaks self.now.line self.now.times.now g) (4 * (self.now.line.sheet.n * self.now.line.sheet.n)) result }
     {
-        for (k, &value) in part.iter().enumerate() {
-            if self.is_broken(g, k, value) {
+        // over the places' numbers: `enumerate` takes twice the time where few places have a window
+        for k in 0..part.len() {
+            if self.is_broken(g, k, part[k]) {
                 return Some(k);
             }
         }

@@ -46,3 +46,14 @@ pub struct Refusal {
     pub reason: Reason,
     pub at: usize,
 }
+
+// The number of its reason, and the place.
+impl From<Refusal> for (u8, usize) {
+    ghost use Rattle.numbers.specs.Refusals.{number_of};
+
+    ghost from_gives = { λ refusal told. told ≡ (number_of refusal.reason, refusal.at) };
+
+    fn from(refusal: Refusal) -> (u8, usize) {
+        (u8::from(refusal.reason), refusal.at)
+    }
+}

@@ -27,7 +27,7 @@ pub extern "C" fn probe_read(
 ) -> u32
     ensures { Handed (λ a. reading a tables.new schedule.new ≡ read_of (sheet_in file.now) tables.old schedule.old) values.old result values.new }
 {
-    answers::of_read(reader::read_sheet(file, tables, schedule), values)
+    answers::of_read(reader::read_sheet(file, tables, schedule), values).number
 }
 
 // The writer: 0 with the sheet's length, or the number of the refusal.
@@ -50,7 +50,7 @@ pub extern "C" fn probe_write(
         tables,
         schedule,
     };
-    answers::of_length(writer::write_sheet(&sheet, out), values)
+    answers::of_length(writer::write_sheet(&sheet, out), values).number
 }
 
 // Ask: 0 with the rounds, 100 with the arc count, or the number of the refusal.
@@ -77,7 +77,7 @@ pub extern "C" fn probe_ask(
         schedule,
     };
     let time = Fraction { top: p, bottom: q };
-    answers::of_asked(ask::ask(&sheet, time, plan, circuit), values)
+    answers::of_asked(ask::ask(&sheet, time, plan, circuit), values).number
 }
 
 // Ends: 0 with low's top and bottom, high's where it is not open, and the two arc counts; 101 with the two arc counts; or the number of the refusal.
@@ -101,7 +101,7 @@ pub extern "C" fn probe_ends(
         tables,
         schedule,
     };
-    answers::of_ended(ends::ends(&sheet, first, second), values)
+    answers::of_ended(ends::ends(&sheet, first, second), values).number
 }
 
 // Proposed times held to a sheet: 0; 102 with position, kind, to and from of the first window broken; or the number of the refusal.
@@ -127,7 +127,7 @@ pub extern "C" fn probe_times(
         schedule,
     };
     let time = Fraction { top: p, bottom: q };
-    verdicts::of_times(keeping::check_times(&sheet, time, times), values)
+    verdicts::of_times(keeping::check_times(&sheet, time, times), values).number
 }
 
 // Proposed arcs held to a sheet: 0; 103 with the index of the first bad arc; 104 to 107; or the number of the refusal.
@@ -153,7 +153,7 @@ pub extern "C" fn probe_arcs(
         schedule,
     };
     let time = Fraction { top: p, bottom: q };
-    verdicts::of_arcs(refuting::check_arcs(&sheet, time, arcs), values)
+    verdicts::of_arcs(refuting::check_arcs(&sheet, time, arcs), values).number
 }
 
 // The report: 0 with the text's length, or the number of the refusal.
@@ -161,5 +161,5 @@ pub extern "C" fn probe_arcs(
 pub extern "C" fn probe_report(file: &[u8], out: &mut [u8], values: &mut [u64]) -> u32
     ensures { Handed (λ a. report.Outcome file.now out.old a out.new) values.old result values.new }
 {
-    answers::of_length(report::report(file, out), values)
+    answers::of_length(report::report(file, out), values).number
 }

@@ -1,6 +1,6 @@
 -- What the steps that read records promise each other and the reader.
-use Rattle.std.specs.Prelude.{ℕ, ◌≡◌, Bool, ◌&&◌, List, leb, Result, Ok, Err}
-use Rattle.numbers.specs.Groups.{Refusal, Number, Value, Refused}
+use Rattle.std.specs.Prelude.{ℕ, ◌≡◌, ⊤, Bool, ◌&&◌, List, leb, Option, None, Some, Result, Ok, Err}
+use Rattle.numbers.specs.Groups.{Refusal, bad, Number, Value, Refused}
 use Rattle.numbers.specs.Signs.{decoded}
 use Rattle.numbers.specs.Refusals.{said}
 use Rattle.numbers.specs.declared.refusals.Refusal as code
@@ -15,6 +15,23 @@ between least most v = leb least v && leb v most
 abbrev pub taken : Result ℕ code.Refusal → ℕ → ℕ → Number
 taken (Ok v) began next = Value v began next
 taken (Err r) began next = Refused (said r)
+
+-- a number that was tried at a place: taken, or none, which is refused by the number k, whatever that is, or not read
+abbrev pub tried : ℕ → Result (Option ℕ) code.Refusal → ℕ → ℕ → Number
+tried k (Ok (Some v)) began next = Value v began next
+tried k (Ok None) began next = Refused (bad k began)
+tried k (Err r) began next = Refused (said r)
+
+-- the place stays where a step is refused
+abbrev pub Stays : {A : Type 0} → Result A code.Refusal → ℕ → ℕ → Type 0
+Stays (Ok a) began next = ⊤
+Stays (Err r) began next = next ≡ began
+
+-- the place stays but where a number is taken
+abbrev pub StaysBut : Result (Option ℕ) code.Refusal → ℕ → ℕ → Type 0
+StaysBut (Ok (Some v)) began next = ⊤
+StaysBut (Ok None) began next = next ≡ began
+StaysBut (Err r) began next = next ≡ began
 
 -- a record that was found, with the place after it, as the part that it is
 abbrev pub found_part : Result Found code.Refusal → ℕ → Part Placed

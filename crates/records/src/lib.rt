@@ -5,14 +5,14 @@
 // the places of document 02's E1.
 #![tactic(auto)]
 
-ghost use Rattle.std.specs.Prelude.{◌≡◌, ◌*◌, ◌≤◌, ◌<◌, leb, set, replicate};
+ghost use Rattle.std.specs.Prelude.{◌≡◌, ℕ, ◌*◌, ◌≤◌, ◌<◌, leb, set, replicate};
 ghost use Rattle.std.proofs.lemmas.List.Edits.{sets};
 ghost use Rattle.numbers.specs.Groups.{number_at};
 ghost use Rattle.numbers.specs.Refusals.{number_of};
 ghost use Rattle.tables.specs.Sheets.{no_window};
 ghost use Rattle.sheet.specs.File as file_spec;
 ghost use Rattle.sheet.specs.File.{tested, value_at, record_at, records_at, mode_at, modes_at, laid, tables_of};
-ghost use Rattle.records.specs.Steps.{between, taken, found_part, left, Walks};
+ghost use Rattle.records.specs.Steps.{between, taken, tried, found_part, left, Stays, StaysBut, Walks};
 
 use numbers::refusals::{Reason, Refusal};
 
@@ -34,7 +34,23 @@ struct Found {
 const MOST_CODE: usize = 2000000;
 
 impl<'a> Cursor<'a> {
-    // The next number, refused where it lies outside its limits.
+    // The next number, where it lies within its limits, and none where it does not: by what number that is refused is for the caller to say. No number
+    // is passed over but one that is taken.
+    pub fn within(&mut self, least: usize, most: usize) -> Result<Option<usize>, Refusal>
+        ensures reads { (k : ℕ) → tried k result self.old.at self.new.at ≡ tested (between least most) k (number_at self.old.file.now self.old.at) }
+        ensures stays { StaysBut result self.old.at self.new.at }
+        ensures kept { self.new.file.now ≡ self.old.file.now }
+    {
+        let number = numbers::number_at(self.file, self.at)?;
+        let is_within = (least..=most).contains(&number.value);
+        if !is_within {
+            return Ok(None);
+        }
+        self.at = number.next;
+        Ok(Some(number.value))
+    }
+
+    // The next number, refused where it lies outside its limits. The cursor then stays before it.
     pub fn number_within(
         &mut self,
         least: usize,
@@ -42,18 +58,14 @@ impl<'a> Cursor<'a> {
         reason: Reason,
     ) -> Result<usize, Refusal>
         ensures reads { taken result self.old.at self.new.at ≡ tested (between least most) (number_of reason) (number_at self.old.file.now self.old.at) }
+        ensures stays { Stays result self.old.at self.new.at }
         ensures kept { self.new.file.now ≡ self.old.file.now }
     {
-        let number = numbers::number_at(self.file, self.at)?;
-        let is_within = (least..=most).contains(&number.value);
-        if !is_within {
-            return Err(Refusal {
-                reason,
-                at: number.at,
-            });
-        }
-        self.at = number.next;
-        Ok(number.value)
+        let at = self.at;
+        let Some(number) = self.within(least, most)? else {
+            return Err(Refusal { reason, at });
+        };
+        Ok(number)
     }
 }
 
@@ -168,12 +180,7 @@ fn read_mode(cursor: &mut Cursor, n: usize, part: &mut [i32]) -> Result<(), Refu
 
 // Reads the windows of every mode, each mode's into the part of the tables that starts at 4t·n², which
 // is empty where the tables do not reach that far.
-pub fn read_modes(
-    cursor: &mut Cursor,
-    n: usize,
-    m: usize,
-    tables: &mut [i32],
-) -> Result<(), Refusal>
+fn read_each(cursor: &mut Cursor, n: usize, m: usize, tables: &mut [i32]) -> Result<(), Refusal>
     requires { (n ≤ 12) × (m ≤ 8) }
     ensures walks { Walks (λ was modes. sets was 0 (tables_of n modes)) (modes_at cursor.old.file.now n m cursor.old.at) tables.old (left result cursor.new.at) tables.new }
     ensures kept { cursor.new.file.now ≡ cursor.old.file.now }
@@ -184,4 +191,24 @@ pub fn read_modes(
         read_mode(cursor, n, &mut tables[start..])?;
     }
     Ok(())
+}
+
+// Reads the windows of every mode into the tables, as far as these reach. Where they are refused the cursor is back before the first of them.
+pub fn read_modes(
+    cursor: &mut Cursor,
+    n: usize,
+    m: usize,
+    tables: &mut [i32],
+) -> Result<(), Refusal>
+    requires { (n ≤ 12) × (m ≤ 8) }
+    ensures walks { Walks (λ was modes. sets was 0 (tables_of n modes)) (modes_at cursor.old.file.now n m cursor.old.at) tables.old (left result cursor.new.at) tables.new }
+    ensures stays { Stays result cursor.old.at cursor.new.at }
+    ensures kept { cursor.new.file.now ≡ cursor.old.file.now }
+{
+    let before = cursor.at;
+    let read = read_each(cursor, n, m, tables);
+    if read.is_err() {
+        cursor.at = before;
+    }
+    read
 }

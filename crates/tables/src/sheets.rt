@@ -71,9 +71,14 @@ fn is_mode(mode: u8, m: usize) -> bool
     usize::from(mode) < m
 }
 
-// Whether values may stand in a table.
+// Whether values may stand in a table. By a `for`, which goes over thousands of values faster than `all`.
 fn are_admitted(values: &[i32]) -> bool
     ensures { result ≡ list_all admits values.now }
 {
-    values.iter().all(|&value| is_admitted(value))
+    for &value in values {
+        if !is_admitted(value) {
+            return false;
+        }
+    }
+    true
 }

@@ -5,16 +5,16 @@
 
 ghost use Rattle.keeping.specs.Answers.{answer_times};
 ghost use Rattle.refuting.specs.Answers.{answer_arcs};
-ghost use Rattle.values.specs.Handed.{Given};
+ghost use Rattle.std.specs.Prelude.{Ok};
+ghost use Rattle.values.specs.Handed.{Refused, GivenOr};
 
 use keeping::TimesHeld;
-use numbers::refusals::Reason;
 use refuting::ArcsHeld;
-use values::{give, refuse};
+use values::{Answered, give, refuse};
 
-// That on proposed times.
-pub fn of_times(held: Result<TimesHeld, Reason>, values: &mut [u64]) -> u32
-    ensures { Given (answer_times held) values.old result values.new }
+// That on proposed times, refused by any number.
+pub fn of_times<R: Into<u8>>(held: Result<TimesHeld, R>, values: &mut [u64]) -> Answered
+    ensures { GivenOr (λ h. answer_times (Ok h)) (Refused R.converts) held values.old result values.new }
 {
     match held {
         Ok(TimesHeld::Accepted) => give(values, 0, &[]),
@@ -34,9 +34,9 @@ pub fn of_times(held: Result<TimesHeld, Reason>, values: &mut [u64]) -> u32
     }
 }
 
-// That on proposed arcs.
-pub fn of_arcs(held: Result<ArcsHeld, Reason>, values: &mut [u64]) -> u32
-    ensures { Given (answer_arcs held) values.old result values.new }
+// That on proposed arcs, refused by any number.
+pub fn of_arcs<R: Into<u8>>(held: Result<ArcsHeld, R>, values: &mut [u64]) -> Answered
+    ensures { GivenOr (λ h. answer_arcs (Ok h)) (Refused R.converts) held values.old result values.new }
 {
     match held {
         Ok(ArcsHeld::Accepted) => give(values, 0, &[]),

@@ -1,16 +1,25 @@
--- The values take the front of the list, as far as it reaches.
-use mathlib.Core.Path.{refl, ap, ◌∙◌}
-use mathlib.Core.List.{List, ◌++◌}
-use Prim.Native.Nat.{ℕ}
-use native.Mathlib.Omega.{arith}
-use lib.ListN.{drop}
-use Rattle.values.proofs.Lists.{front}
+-- A value that the list has no room for changes nothing.
+use mathlib.Core.Path.{refl, sym, ◌∙◌}
+use lib.ListN.{get_or}
+use lib.Seq.{set_out}
+use Rattle.values.proofs.Lists.{stores_more, stores_all}
 use Rattle.values.proofs.give.Goals as goal
+use Rattle.values.proofs.give.Goals.{then-is_inside, else-is_inside}
+
+pub loop-k-init : goal.loop-k-init
+loop-k-init c = refl
+
+pub loop-k-preserved : goal.loop-k-preserved
+loop-k-preserved c = let list = c.args.list.now in let k = c.loop-k.k in
+    stores_more c.args.values.now list c.loop-k.values c.if-is_inside.values k c.loop-k-test.true c.loop-k.invariant
+    (elim c.if-is_inside.branch [
+      | then-is_inside r ↦ r.values-is
+      | else-is_inside r ↦ r.values-is ∙ sym (set_out c.loop-k.values k (get_or list k 0) r.if-is_inside.false)
+    ])
 
 pub returns : goal.returns
-returns c = let n = c.min-count.result in let values = c.args.values.now in
-    let put = ap (λ (front : List ℕ). front ++ drop n values) c.copy_from_slice.ensures.after in
-    record {
-      numbered = refl;
-      valued = put ∙ front values c.args.list.now n (omega (arith, c.min-count.ensures)) (omega (arith, c.min-count.ensures)) (λ below. omega (arith, c.min-count.ensures, below));
-    }
+returns c = record {
+  numbered = refl;
+  counted = refl;
+  valued = stores_all c.args.values.now c.args.list.now _ c.loop-k.k c.loop-k.invariant c.loop-k-test.false;
+}

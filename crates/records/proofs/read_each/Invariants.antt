@@ -1,4 +1,4 @@
--- `records::read_modes` meets its contract. The invariant: the file is the same, and what ends the modes that are left, from their part on, ends them all.
+-- `records::read_each` meets its contract. The invariant: the file is the same, and what ends the modes that are left, from their part on, ends them all.
 use Rattle.sheet.specs.File.{modes_at}
 use Rattle.records.specs.Steps.{Walks}
 use Rattle.records.proofs.Modes.{store_from}
@@ -8,7 +8,7 @@ use mathlib.Core.Path.{◌≡◌}
 use mathlib.Core.List.{List}
 use Prim.Native.Nat.{ℕ, ◌-◌, ◌*◌}
 use lib.IntN.{ℤ}
-use Rattle.records.proofs.read_modes.Given as goal
+use Rattle.records.proofs.read_each.Given as goal
 
 abbrev pub invariant-loop-t : goal.invariant-loop-t
 invariant-loop-t l = (l.cursor.file.now ≡ l.initial.cursor.file.now)

@@ -1,4 +1,4 @@
--- `records::read_modes` meets its contract. The invariant: the file is the same, and what ends the modes that are left, from their part on, ends them all.
+-- `records::read_each` meets its contract. The invariant: the file is the same, and what ends the modes that are left, from their part on, ends them all.
 use Rattle.sheet.specs.File.{modes_at, laid}
 use Rattle.records.specs.Steps.{Walks}
 use Rattle.records.proofs.Walking.{walked, unwalked}
@@ -11,7 +11,7 @@ use Prim.Native.Nat.{ℕ, ◌-◌, ◌*◌, min}
 use native.Mathlib.Omega.{arith}
 use native.Mathlib.Nat.{sub-zero}
 use lib.ListN.{length}
-use Rattle.records.proofs.read_modes.Goals as goal
+use Rattle.records.proofs.read_each.Goals as goal
 
 none : (k : ℕ) → 0 * k ≡ 0
 none k = omega arith
